@@ -1,0 +1,3 @@
+pub mod Worlds
+pub mod Taken
+pub mod Whole

@@ -1,0 +1,5 @@
+pub mod World
+pub mod Calls
+pub mod Stops
+pub mod TakeAll
+pub mod ReadAll
