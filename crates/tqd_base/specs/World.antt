@@ -96,9 +96,9 @@ set_file w name bytes = record w { files = option_map (λ files other. if pointw
 unfoldable pub bytes_at : World → Name → Option Bytes
 bytes_at w name = option_map (λ files. unwrap_or (files name) []) w.files
 
--- the world with a piece more at the end of a file, and all else as it was
+-- the world with a piece more at the end of a file that is there, and all else as it was
 unfoldable pub append : World → Name → Bytes → World
-append w name piece = set_file w name (unwrap_or (bytes_at w name) [] ++ piece)
+append w name piece = record w { files = option_map (λ files other. if pointwise nat_eq other name then option_map (λ bytes. bytes ++ piece) (files other) else files other) w.files }
 
 -- the world with a piece more at the end of the output, and all else as it was
 unfoldable pub print : World → Bytes → World
