@@ -1,0 +1,5 @@
+use Rattle.money.proofs.Costs.{costs_are_prices}
+use Rattle.money.proofs.laws.costs_are_prices.Goals as goal
+
+pub returns : goal.returns
+returns c = costs_are_prices
