@@ -1,5 +1,5 @@
 -- What was taken so far from a reading slot.
-use Rattle.std.proofs.Common.{ℕ, ◌≡◌, ◌+◌, ◌<◌, ◌≤◌, ◌++◌, Bool, true, false, Option, None, Some, List, [], length, take, drop, refl, sym, ◌∙◌, ap, subst, arith, length-append, append_assoc, append-nil}
+use Rattle.std.proofs.Common.{ℕ, ◌≡◌, ◌+◌, ◌<◌, ◌≤◌, ◌++◌, Option, None, Some, [], length, take, drop, refl, sym, ◌∙◌, ap, subst, arith, length-append, append_assoc, append-nil}
 use Rattle.std.proofs.lemmas.List.{length-take-le, take-append-drop, drop-drop}
 use Rattle.std.proofs.Math.Seq.{take-append_seam}
 use Rattle.std.specs.Prelude.{IfSome, IsSome, option_and_then, unwrap_or, Vec, vec_len, Result, Ok, Err, IsErrAnd}
@@ -102,11 +102,11 @@ taken_more old mid new slot n bytes buffer t m =
     record {
       first = first_more (old.world.slots slot) bytes buffer n m.fits t.first (subst (λ (s : Option Slot). IfSome (option_and_then left_of s) (λ left. Moves left buffer n)) there m.moves);
       world =
-        m.world
-        ∙ ap (λ (w : World). set_slot w slot (option_map (shortened n) (mid.world.slots slot))) t.world
-        ∙ set_slot-set_slot old.world slot _ _
-        ∙ ap (λ (s : Option Slot). set_slot old.world slot (option_map (shortened n) s)) there
-        ∙ ap (set_slot old.world slot) (shorten_more (length bytes) n (old.world.slots slot) ∙ ap (λ (k : ℕ). option_map (shortened k) (old.world.slots slot)) (length_more bytes buffer n m.fits));
+          m.world
+          ∙ ap (λ (w : World). set_slot w slot (option_map (shortened n) (mid.world.slots slot))) t.world
+          ∙ set_slot-set_slot old.world slot _ _
+          ∙ ap (λ (s : Option Slot). set_slot old.world slot (option_map (shortened n) s)) there
+          ∙ ap (set_slot old.world slot) (shorten_more (length bytes) n (old.world.slots slot) ∙ ap (λ (k : ℕ). option_map (shortened k) (old.world.slots slot)) (length_more bytes buffer n m.fits));
       kept = m.kept ∙ t.kept;
       never_fall = never_fall_trans _ _ _ t.never_fall m.never_fall;
     }
@@ -156,7 +156,8 @@ gives_fault old mid new slot limit bytes r t f =
       };
       answer = (
         (λ told. f.named (subst IsSome (sym (files_after old mid slot bytes t)) told) ∙ ap (λ (n : Name). Some n) (name_after old mid slot bytes t)),
-        rose_more old.faults.reading mid.faults.reading new.faults.reading t.never_fall.reading f.rose);
+        rose_more old.faults.reading mid.faults.reading new.faults.reading t.never_fall.reading f.rose,
+      );
     }
 
 pub gives_size : (old new : State) (slot limit : ℕ) (bytes : Bytes) → Reads (old.world.slots slot) → Taken old new slot bytes
@@ -191,7 +192,8 @@ gives_bytes old mid new slot limit bytes buffer r t m within =
       answer = (
         m.kept ∙ t.kept,
         whole (old.world.slots slot) bytes.items buffer t.first (subst (λ (s : Option Slot). IfSome (option_and_then left_of s) (λ left. Moves left buffer 0)) there m.moves),
-        within);
+        within,
+      );
     }
 
 -- the same where the call that failed says why

@@ -1,6 +1,6 @@
 -- A file that is opened, taken whole and closed.
 use Rattle.std.proofs.Common.{ℕ, ◌≡◌, ◌<◌, ◌≤◌, Bool, Option, None, Some, [], length, refl, sym, ◌∙◌, ap, subst, arith}
-use Rattle.std.specs.Prelude.{IfSome, IsSome, option_and_then, unwrap_or, Vec, vec_len, Result, Ok, Err, IsErrAnd}
+use Rattle.std.specs.Prelude.{IfSome, IsSome, option_and_then, unwrap_or, Vec, Result, Ok, Err, IsErrAnd}
 use Rattle.std.specs.Option.{option_map}
 use Rattle.std.specs.Global.{Global}
 use Rattle.tqd_base.specs.declared.desk.DeskStop.{DeskStop}
@@ -9,7 +9,7 @@ use Rattle.tqd_base.specs.declared.read.ReadStop.{ReadStop}
 use Rattle.tqd_base.specs.declared.read.ReadStop.TheVariants.{Fault, Size, Memory}
 use Rattle.tqd_base.specs.Stops.{read_stop_of}
 use Rattle.tqd_base.specs.World.{World, State, Name, Bytes, Slot, Reading, NeverFall, Rose, Reads, set_slot, left_at, left_of, name_of, name_at, bytes_at}
-use Rattle.tqd_base.specs.Calls.{OpenGives, Opens, Rests, FailsReading, CloseGives, Closes}
+use Rattle.tqd_base.specs.Calls.{OpenGives, Opens, CloseGives, Closes}
 use Rattle.tqd_base.specs.TakeAll.{TakeAllGives}
 use Rattle.tqd_base.specs.ReadAll.{ReadAllGives}
 use Rattle.tqd_base.proofs.Worlds.{slots-set_slot-same, set_slot-set_slot, set_slot-same}
@@ -77,7 +77,8 @@ gives_answer a old opened taken done name slot limit (Ok v) o t same kept falls 
     readable = o.readable;
     all = subst (λ (l : Option Bytes). IfSome l (λ all. v.items ≡ all)) (opened_left a old opened name slot o) t.answer.1;
     within = omega (arith, t.answer.2, v.ok);
-  })
+  },
+)
 gives_answer a old opened taken done name slot limit (Err Fault) o t same kept falls after = record {
   world = same;
   rose = rose_after old.faults.reading opened.faults.reading taken.faults.reading done.faults.reading o.never_fall.reading t.answer.1 after.reading;
@@ -89,7 +90,8 @@ gives_answer a old opened taken done name slot limit (Err Size) o t same kept fa
   record {
     readable = o.readable;
     beyond = subst (λ (l : Option Bytes). IfSome l (λ all. limit < length all)) (opened_left a old opened name slot o) t.answer.1;
-  })
+  },
+)
 gives_answer a old opened taken done name slot limit (Err Memory) o t same kept falls after =
     record { world = same; kept = kept ∙ t.answer ∙ o.kept; never_fall = falls }
 

@@ -1,5 +1,5 @@
 -- Laws of the changes of a world.
-use Rattle.std.proofs.Common.{ℕ, ◌≡◌, ◌+◌, Bool, true, false, Option, None, Some, List, drop, refl, sym, ◌∙◌, ap, eq-eqb, eqb-true}
+use Rattle.std.proofs.Common.{ℕ, ◌≡◌, Bool, true, false, Option, refl, sym, ◌∙◌, ap, eq-eqb, eqb-true}
 use Rattle.std.specs.Prelude.{if◌then◌else◌, ◌==◌}
 use Rattle.tqd_base.specs.World.{World, Slot, set_slot}
 

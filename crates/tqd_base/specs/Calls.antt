@@ -1,9 +1,9 @@
 -- What each call of a desk does to its state, by cases on its answer.
-use Rattle.std.specs.Prelude.{ℕ, ◌≡◌, ◌≤◌, Bool, [], length, take, Option, Some, None, IsSome, IfSome, Result, Ok, Err}
+use Rattle.std.specs.Prelude.{ℕ, ◌≡◌, ◌≤◌, Bool, [], length, take, Some, None, IsSome, IfSome, Result, Ok, Err}
 use Rattle.std.specs.Option.{option_map}
 use Rattle.tqd_base.specs.declared.desk.DeskStop.{DeskStop}
 use Rattle.tqd_base.specs.declared.desk.DeskStop.TheVariants.{Failed, Memory}
-use Rattle.tqd_base.specs.World.{World, State, Name, Bytes, Slot, Reading, Writing, NeverFall, Rose, Writes, set_slot, set_file, append, print, bytes_at, left_at, name_at, shortened, IsReadable}
+use Rattle.tqd_base.specs.World.{State, Name, Bytes, Reading, Writing, NeverFall, Rose, Writes, set_slot, set_file, append, print, bytes_at, left_at, name_at, shortened, IsReadable}
 
 -- the world and the name that failed last are as they were
 pub record Rests (old new : State) : Type 0 where

@@ -3,3 +3,10 @@ pub mod Calls
 pub mod Stops
 pub mod TakeAll
 pub mod ReadAll
+pub mod Kept
+pub mod StoreWorld
+pub mod Store
+pub mod Told
+pub mod SureState
+pub mod MemoryState
+pub mod RealState

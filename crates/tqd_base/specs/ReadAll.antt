@@ -1,9 +1,9 @@
 -- What reading a whole file does to the state of a desk, by cases on its answer.
-use Rattle.std.specs.Prelude.{ℕ, ◌≡◌, ◌<◌, ◌≤◌, Bool, length, Some, None, IfSome, Result, Ok, Err, Vec}
+use Rattle.std.specs.Prelude.{ℕ, ◌≡◌, ◌<◌, ◌≤◌, Bool, length, IfSome, Result, Ok, Err, Vec}
 use Rattle.std.specs.Global.{Global}
 use Rattle.tqd_base.specs.declared.read.ReadStop.{ReadStop}
 use Rattle.tqd_base.specs.declared.read.ReadStop.TheVariants.{Fault, Size, Memory}
-use Rattle.tqd_base.specs.World.{World, State, Name, Bytes, NeverFall, Reads, set_slot, bytes_at, left_at, name_at, IsReadable}
+use Rattle.tqd_base.specs.World.{World, State, Name, Bytes, bytes_at, IsReadable}
 use Rattle.tqd_base.specs.Calls.{Rests, FailsReading}
 
 -- the bytes are the whole file, where told, and within the limit

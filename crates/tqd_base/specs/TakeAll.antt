@@ -3,7 +3,7 @@ use Rattle.std.specs.Prelude.{ℕ, ◌≡◌, ◌<◌, ◌≤◌, Some, None, Is
 use Rattle.std.specs.Global.{Global}
 use Rattle.tqd_base.specs.declared.read.ReadStop.{ReadStop}
 use Rattle.tqd_base.specs.declared.read.ReadStop.TheVariants.{Fault, Size, Memory}
-use Rattle.tqd_base.specs.World.{State, Bytes, NeverFall, Rose, Reads, set_slot, left_at, name_at}
+use Rattle.tqd_base.specs.World.{State, NeverFall, Rose, Reads, set_slot, left_at, name_at}
 
 -- the slot still reads, and all but what it has left is as it was
 pub record Drains (old new : State) (slot : ℕ) : Type 0 where

@@ -1,6 +1,6 @@
 -- What a desk tells of its files, its output and its open slots, and how a call changes that.
 -- Every 'where told' is an option: None says that the desk does not tell it.
-use Rattle.std.specs.Prelude.{ℕ, suc, ◌≡◌, ◌≢◌, ◌+◌, ◌-◌, ◌^◌, ◌<◌, ◌≤◌, ◌==◌, min, Bool, true, false, if◌then◌else◌, List, [], ◌++◌, length, take, drop, nat_eq, Option, Some, None, IsSome, IfSome, unwrap_or, option_and_then}
+use Rattle.std.specs.Prelude.{ℕ, ◌≡◌, ◌≢◌, ◌+◌, ◌-◌, ◌^◌, ◌≤◌, ◌==◌, min, Bool, true, if◌then◌else◌, List, [], ◌++◌, drop, nat_eq, Option, Some, None, IfSome, unwrap_or, option_and_then}
 use Rattle.std.specs.Option.{option_map}
 use Rattle.std.specs.Cmp.Lexicographic.{pointwise}
 

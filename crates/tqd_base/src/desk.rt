@@ -2,7 +2,8 @@ ghost use Rattle.std.specs.Prelude.{◌<◌, Bool, length, IsSome};
 ghost use Rattle.tqd_base.specs.World.{State, Reads, Writes, HasNoSlot};
 ghost use Rattle.tqd_base.specs.Calls.{OpenGives, TakeGives, MakeGives, PutGives, OutGives, CloseGives};
 
-use std::alloc::Global;
+use crate::memory::Memory;
+use std::alloc::{AllocError, Global};
 use thiserror::Error;
 
 /// Why a call of a desk failed: the device, or the want of memory.
@@ -12,6 +13,28 @@ pub enum DeskStop {
     Failed,
     #[error("out of memory")]
     Memory,
+}
+
+impl From<Memory> for DeskStop {
+    ghost use Rattle.tqd_base.specs.declared.desk.DeskStop.TheVariants.{Memory};
+    ghost use Rattle.std.specs.Prelude.{◌≡◌};
+
+    ghost from_gives = { λ _ e. e ≡ Memory };
+
+    fn from(_error: Memory) -> DeskStop {
+        DeskStop::Memory
+    }
+}
+
+impl From<AllocError> for DeskStop {
+    ghost use Rattle.tqd_base.specs.declared.desk.DeskStop.TheVariants.{Memory};
+    ghost use Rattle.std.specs.Prelude.{◌≡◌};
+
+    ghost from_gives = { λ _ e. e ≡ Memory };
+
+    fn from(_error: AllocError) -> DeskStop {
+        DeskStop::Memory
+    }
 }
 
 /// Where a program reads, writes and prints: named files in numbered slots, and an output.

@@ -1,5 +1,5 @@
 -- Each way out has its lemma in `Taken`; the loop keeps what was taken so far.
-use Rattle.std.proofs.Common.{◌≡◌, ℕ, ◌<◌, ◌≤◌, ◌++◌, length, drop, ◌∙◌, vec_len, arith, length-take, take, ap, sym, subst, refl}
+use Rattle.std.proofs.Common.{◌≡◌, ℕ, ◌<◌, ◌≤◌, ◌++◌, length, drop, ◌∙◌, arith, take, ap, sym, subst}
 use Rattle.std.proofs.lemmas.List.{length-take-le}
 use Rattle.tqd_base.specs.Stops.{read_stop_of}
 use Rattle.tqd_base.specs.declared.read.ReadStop.TheVariants.{Memory}
@@ -66,7 +66,7 @@ returns-then-len-limit g c =
     let same : length c.take.new.buffer ≡ c.loop-bytes.buffer.len = omega (arith, c.take.auto.buffer, c.deref_mut.ensures.len) in
     gives_size (g.D.Desk.state c.args.desk.now) (g.D.Desk.state c.take.new.self) c.args.slot c.args.limit c.extend_from_slice.new.self.items c.requires
     (grown _ (g.D.Desk.state c.loop-bytes.desk) _ c.args.slot c.loop-bytes.bytes.items c.extend_from_slice.new.self.items c.take.new.buffer c.deref.result.now c.loop-bytes.buffer.items c.loop-bytes.buffer.len c.in_ok-taken.taken
-        c.loop-bytes.invariant.taken c.in_ok-taken.ensures c.deref.ensures.value same c.in_ok-extend_from_slice.ensures.items)
+    c.loop-bytes.invariant.taken c.in_ok-taken.ensures c.deref.ensures.value same c.in_ok-extend_from_slice.ensures.items)
     (omega (arith, c.if-len-limit.true, c.len.ensures))
 
 pub loop-bytes-smaller : goal.loop-bytes-smaller
@@ -79,7 +79,7 @@ loop-bytes-preserved g c =
     let same : length c.take.new.buffer ≡ c.loop-bytes.buffer.len = omega (arith, c.take.auto.buffer, c.deref_mut.ensures.len) in
     record {
       taken = grown _ (g.D.Desk.state c.loop-bytes.desk) _ c.args.slot c.loop-bytes.bytes.items c.extend_from_slice.new.self.items c.take.new.buffer c.deref.result.now c.loop-bytes.buffer.items c.loop-bytes.buffer.len c.in_ok-taken.taken
-        c.loop-bytes.invariant.taken c.in_ok-taken.ensures c.deref.ensures.value same c.in_ok-extend_from_slice.ensures.items;
+          c.loop-bytes.invariant.taken c.in_ok-taken.ensures c.deref.ensures.value same c.in_ok-extend_from_slice.ensures.items;
       within = omega (arith, c.if-len-limit.false, c.len.ensures);
       room = c.loop-bytes.invariant.room;
     }
