@@ -1,0 +1,6 @@
+pub mod Fields
+pub mod Marks
+pub mod RecordCount
+pub mod ReaderFacts
+pub mod TableFacts
+pub mod FaultLaws
