@@ -1,0 +1,11 @@
+use Rattle.std.proofs.Common.{◌∙◌, sym, ap, arith}
+use Rattle.best_word.specs.Seen.{WordSeen, SeatSeen}
+use Rattle.best_word.proofs.Moves.{looks}
+use Rattle.best_word.proofs.word.BestWord.see.Goals as goal
+
+pub load-requires : goal.load-requires
+load-requires c =
+    let shared = c.self.inside.table.shared in
+    let token = c.seat.inside.token in
+    let own = ap (λ (s : SeatSeen). s.word) c.seat.view_is ∙ (c.requires ∙ sym (ap (λ (b : WordSeen). b.word) c.self.view_is)) in
+    (own, omega arith, looks shared.key shared.table_id.slots token.id token.me c.seat.invariant.3)
