@@ -1,0 +1,2 @@
+pub mod LaneAccount
+pub mod Seen
