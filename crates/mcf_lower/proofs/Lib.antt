@@ -1,0 +1,11 @@
+pub mod Nets
+pub mod Sums
+pub mod Circulations
+pub mod Edges
+pub mod Trees
+pub mod Offers
+pub mod Settling
+pub mod Rooms
+pub mod Moves
+pub mod Raising
+pub mod Answering

@@ -1,0 +1,10 @@
+pub mod Net
+pub mod Sums
+pub mod Circulation
+pub mod Laws
+pub mod Edges
+pub mod Tree
+pub mod Search
+pub mod Pseudoflow
+pub mod Units
+pub mod Answers
