@@ -1,0 +1,14 @@
+pub mod Jobs
+pub mod LackLemmas
+pub mod Places
+pub mod Picks
+pub mod Plans
+pub mod Rows
+pub mod SumLemmas
+pub mod Tables
+pub mod SegmentLemmas
+pub mod Rising
+pub mod SupplierFacts
+pub mod JobBuilds
+pub mod JobSame
+pub mod Froms

@@ -1,0 +1,24 @@
+//! What follows from the definitions alone: functions without a body that computes, whose contracts are the laws.
+ghost use Rattle.std.specs.Prelude.{List, ℕ, ◌<◌, ◌≡◌};
+ghost use Rattle.tqd_instance.specs.Job.{suppliers};
+ghost use Rattle.tqd_instance.specs.InRange.{IsInRange};
+ghost use Rattle.tqd_instance.specs.Parts.{AreFroms};
+ghost use Rattle.tqd_instance.specs.Picks.{PicksWhereItLies};
+
+use crate::job::Job;
+use crate::parts::JobParts;
+
+/// The numbers of every job are within the limits, and each segment begins where the one before ends.
+pub fn job_is_in_range(_job: &Job)
+    ensures { IsInRange _job.now }
+{}
+
+/// A total selects the segment in which it lies, which is one alone, and none exactly where it lies in none.
+pub fn total_picks_where_it_lies(_job: &Job)
+    ensures { (i total : ℕ) → i < suppliers _job.now → PicksWhereItLies _job.now i total }
+{}
+
+/// The numbers at which the intervals of a supplier begin are one list.
+pub fn intervals_begin_at_one_list(_parts: &JobParts)
+    ensures { (i : ℕ) (a b : List ℕ) → AreFroms _parts.now i a → AreFroms _parts.now i b → a ≡ b }
+{}

@@ -1,0 +1,35 @@
+//! The job of a buyer under total quantity discounts, and what a purchase, a feasible one and a least one are.
+//!
+//! A supplier's quantity intervals are selected by the number of units bought from that supplier over all goods,
+//! and the selected interval prices every one of those units. `specs/` has the definitions that every theorem of
+//! the program speaks of: `Job`, `Purchase`, `Feasible`, `Cost` and `Least`, over all matrices of whole numbers.
+//!
+//! `Job::build` makes the job that the parts describe, or refuses them by the first test that fails.
+//! `Job::standing` says whether a plan is feasible and what it costs, or which test of feasibility it fails first.
+#![tactic(auto)]
+
+mod build;
+mod formed;
+mod job;
+mod lacks;
+pub mod laws;
+mod list;
+mod offers;
+mod parts;
+mod plan;
+mod same;
+mod segments;
+mod seller;
+mod standing;
+mod supplier;
+#[cfg(test)]
+mod tests;
+
+pub use job::Job;
+pub use list::Numbers;
+pub use parts::{
+    FeeRow, JobFault, JobParts, Over, OverRow, PriceRow, ShareRow, StockRow, TotalRow,
+};
+pub use plan::Plan;
+pub use standing::Standing;
+pub use supplier::{Segment, Segments, Supplier, Suppliers};
