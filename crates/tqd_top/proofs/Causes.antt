@@ -1,0 +1,171 @@
+-- From what was found and printed to the cause of the answer.
+use Rattle.std.proofs.Common.{ℕ, ◌≡◌, ◌≤◌, Bool, List, [], ◌∷◌, Option, None, Some, take, refl, sym, ◌∙◌, ap, subst, arith, inl, inr}
+use Rattle.std.specs.Prelude.{IsSome, IfSome, unwrap_or}
+use Rattle.std.specs.Option.{option_map}
+use Rattle.tqd_base.specs.World.{World, State, Name, Bytes, NeverFall, Rose, bytes_at, print}
+use Rattle.tqd_top.specs.declared.answer.InputFile.TheVariants.{Orders, Bill, Offers as OffersFile, Terms, Tree as TreeFile}
+use Rattle.tqd_top.specs.declared.answer.Target.TheVariants.{Tree, Out}
+use Rattle.tqd_top.specs.declared.answer.Answer.{Answer}
+use Rattle.tqd_top.specs.declared.answer.Answer.TheVariants.{Solved, Infeasible, NotBuilt, ReadFault, WriteFault, Memory}
+use Rattle.tqd_top.specs.Words.{IsSolve}
+use Rattle.tqd_top.specs.Plain.{Order, Offers, plain_order, plain_offers}
+use Rattle.tqd_top.specs.Answers.{ReadsAs, StatesOrder, StatesOffers, StatesNoOrder, StatesNoOffers, FailsAt, IsFound, IsNotBuilt, IsCutOff, HasCause, FailsOnlyInputs, IsJobGiven, IsFaultless, IsAnswerToJob}
+use Rattle.tqd_top.specs.Runs.{FindsQuietly, PrintGives, Grows}
+
+rose_before : (a b c : ℕ) → Rose a b → b ≤ c → Rose a c
+unfolding Rose
+rose_before a b c rose le = omega arith
+
+rose_between : (a b c : ℕ) → a ≤ b → Rose b c → Rose a c
+unfolding Rose
+rose_between a b c le rose = omega arith
+
+-- a reading fault that was found stands after the printing
+fails_still : (old mid new : State) (name : Name) → NeverFall mid.faults new.faults → new.failed_last ≡ mid.failed_last → FailsAt old mid name → FailsAt old new name
+fails_still old mid new name falls kept f = record {
+  rose = rose_before old.faults.reading mid.faults.reading new.faults.reading f.rose falls.reading;
+  named = λ told. kept ∙ f.named told;
+}
+
+found_still : (a : Bool) (old mid new : State) (words : List Name) (answer : Answer) (text : Bytes) → NeverFall mid.faults new.faults → new.failed_last ≡ mid.failed_last
+    → IsFound a old mid words answer text → IsFound a old new words answer text
+found_still a old mid new words (Solved plan amount) text falls kept f = f
+found_still a old mid new words Infeasible text falls kept f = f
+found_still a old mid new words NotBuilt text falls kept f = f
+found_still a old mid new words (ReadFault Orders) text falls kept f = (
+  record {
+    orders_name = f.0.orders_name;
+    offers_name = f.0.offers_name;
+    is_solve = f.0.is_solve;
+    fails = fails_still old mid new f.0.orders_name falls kept f.0.fails;
+  },
+  f.1,
+)
+found_still a old mid new words (ReadFault OffersFile) text falls kept f = (
+  record {
+    orders_name = f.0.orders_name;
+    offers_name = f.0.offers_name;
+    is_solve = f.0.is_solve;
+    order = f.0.order;
+    orders_stated = f.0.orders_stated;
+    fails = fails_still old mid new f.0.offers_name falls kept f.0.fails;
+  },
+  f.1,
+)
+found_still a old mid new words (ReadFault Bill) text falls kept f = absurd f
+found_still a old mid new words (ReadFault Terms) text falls kept f = absurd f
+found_still a old mid new words (ReadFault TreeFile) text falls kept f = absurd f
+found_still a old mid new words (WriteFault target) text falls kept f = absurd f
+found_still a old mid new words Memory text falls kept f = absurd f
+
+printed : (a : Bool) (old new : State) (words : List Name) (answer : Answer) (text : Bytes) → IsFound a old new words answer text
+    → new.world ≡ print old.world text → HasCause a old new words answer
+printed a old new words (Solved plan amount) text f w = record { text = text; found = f; world = w }
+printed a old new words Infeasible text f w = record { text = text; found = f; world = w }
+printed a old new words NotBuilt text f w = record { text = text; found = f; world = w }
+printed a old new words (ReadFault file) text f w = record { text = text; found = f; world = w }
+printed a old new words (WriteFault target) text f w = absurd f
+printed a old new words Memory text f w = absurd f
+
+cut_off : (a : Bool) (old mid new : State) (words : List Name) (answer : Answer) (text : Bytes) → FindsQuietly old mid words
+    → IsFound a old new words answer text → (count : ℕ) → Grows mid new text count → IsCutOff a old new words
+cut_off a old mid new words answer text q f count g = record {
+  answer = answer;
+  text = text;
+  found = f;
+  count = count;
+  within = g.within;
+  world = g.world ∙ ap (λ (w : World). print w (take count text)) q.world;
+}
+
+-- the cause of an answer that was found, and then printed or not
+pub cause_of : (a : Bool) (old mid new : State) (words : List Name) (answer : Answer) (text : Bytes) (result : Answer) → FindsQuietly old mid words
+    → IsFound a old mid words answer text → PrintGives mid new answer text result → HasCause a old new words result
+cause_of a old mid new words answer text result q f p =
+    let still = found_still a old mid new words answer text p.never_fall p.kept f in
+    elim p.cases [
+      | inl whole ↦ subst (HasCause a old new words) (sym whole.0) (printed a old new words answer text still (whole.1.world ∙ ap (λ (w : World). print w text) q.world))
+      | inr cut ↦ elim cut [
+        | inl fault ↦ subst (HasCause a old new words) (sym fault.0) (
+          rose_between old.faults.printing mid.faults.printing new.faults.printing q.never_fall.printing fault.1,
+          cut_off a old mid new words answer text q still fault.2.0 fault.2.1,
+        )
+        | inr memory ↦ subst (HasCause a old new words) (sym memory.0) (inr (cut_off a old mid new words answer text q still memory.1.0 memory.1.1))
+      ]
+    ]
+
+pub inputs_of : (old mid new : State) (words : List Name) → FindsQuietly old mid words → new.failed_last ≡ mid.failed_last → FailsOnlyInputs old new words
+inputs_of old mid new words q kept = λ told. elim (q.named told) [
+  | inl same ↦ inl (kept ∙ same)
+  | inr one ↦ inr (one.0, one.1, kept ∙ one.2)
+]
+
+-- the names of two readings of the words are one
+six_same : (c o d f t r c' p d' g t' r' : Name) → c ∷ o ∷ d ∷ f ∷ t ∷ r ∷ [] ≡ c' ∷ p ∷ d' ∷ g ∷ t' ∷ r' ∷ [] → (o ≡ p) × (f ≡ g)
+six_same c o d f t r c' p d' g t' r' e = (cc, cc)
+
+names_same : (words : List Name) (o f p g : Name) → IsSolve words o f → IsSolve words p g → (o ≡ p) × (f ≡ g)
+names_same words o f p g a b = six_same _ o _ f _ _ _ p _ g _ _ (sym a.words_are ∙ b.words_are)
+
+-- two readings of one name, where the files are told, give the same bytes
+one_reading : (o : Option Bytes) (b c : Bytes) → IsSome o → IfSome o (λ file. b ≡ file) → IfSome o (λ file. c ≡ file) → b ≡ c
+one_reading None b c some p q = cc
+one_reading (Some file) b c some p q = p ∙ sym q
+
+mapped : {A B : Type 0} (f : A → B) (o : Option A) → IsSome o → IsSome (option_map f o)
+mapped f None some = cc
+mapped f (Some x) some = refl
+
+same_bytes : (a : Bool) (w : World) (name : Name) (b c : Bytes) → IsSome w.files → ReadsAs a w name b → ReadsAs a w name c → b ≡ c
+unfolding bytes_at
+same_bytes a w name b c told p q = one_reading _ b c (mapped (λ files. unwrap_or (files name) []) w.files told) p.all q.all
+
+some_none : {order : Order} → Some order ≡ None → ⊥
+some_none e = cc
+
+some_none_offers : {offers : Offers} → Some offers ≡ None → ⊥
+some_none_offers e = cc
+
+some_orders : (p q : Order) → Some p ≡ Some q → p ≡ q
+some_orders p q e = cc
+
+no_order : (a : Bool) (w : World) (name other : Name) (order : Order) → IsSome w.files → name ≡ other → StatesOrder a w name order → StatesNoOrder a w other → ⊥
+no_order a w name other order told e s n =
+    let same = same_bytes a w name s.bytes n.bytes told s.reads (subst (λ (m : Name). ReadsAs a w m n.bytes) (sym e) n.reads) in
+    some_none (sym s.stated ∙ ap plain_order same ∙ n.unstated)
+
+no_offers : (a : Bool) (w : World) (name other : Name) (part : Bytes) (offers : Offers) → IsSome w.files → name ≡ other → StatesOffers a w name part offers → StatesNoOffers a w other part → ⊥
+no_offers a w name other part offers told e s n =
+    let same = same_bytes a w name s.bytes n.bytes told s.reads (subst (λ (m : Name). ReadsAs a w m n.bytes) (sym e) n.reads) in
+    some_none_offers (sym s.stated ∙ ap (plain_offers part) same ∙ n.unstated)
+
+same_order : (a : Bool) (w : World) (name other : Name) (p q : Order) → IsSome w.files → name ≡ other → StatesOrder a w name p → StatesOrder a w other q → p ≡ q
+same_order a w name other p q told e s t =
+    let same = same_bytes a w name s.bytes t.bytes told s.reads (subst (λ (m : Name). ReadsAs a w m t.bytes) (sym e) t.reads) in
+    some_orders p q (sym s.stated ∙ ap plain_order same ∙ t.stated)
+
+not_unbuilt : (a : Bool) (w : World) (words : List Name) → IsJobGiven a w words → IsNotBuilt a w words → ⊥
+not_unbuilt a w words j (inl no_words) = no_words j.orders_name j.offers_name j.is_solve
+not_unbuilt a w words j (inr (inl none)) =
+    let names = names_same words j.orders_name j.offers_name none.orders_name none.offers_name j.is_solve none.is_solve in
+    no_order a w j.orders_name none.orders_name j.order j.told names.0 j.orders_stated none.not_stated
+not_unbuilt a w words j (inr (inr none)) =
+    let names = names_same words j.orders_name j.offers_name none.orders_name none.offers_name j.is_solve none.is_solve in
+    let order = same_order a w j.orders_name none.orders_name j.order none.order j.told names.0 j.orders_stated none.orders_stated in
+    no_offers a w j.offers_name none.offers_name none.order.part j.offers j.told names.1
+    (subst (λ (o : Order). StatesOffers a w j.offers_name o.part j.offers) order j.offers_stated) none.not_stated
+
+-- plain files without a fault bring an answer to the job, or the want of memory
+pub answers_job : (a : Bool) (old new : State) (words : List Name) (answer : Answer) → IsJobGiven a old.world words → IsFaultless old new
+    → HasCause a old new words answer → IsAnswerToJob answer
+answers_job a old new words (Solved plan amount) j f c = tt
+answers_job a old new words Infeasible j f c = tt
+answers_job a old new words Memory j f c = tt
+answers_job a old new words NotBuilt j f c = not_unbuilt a old.world words j c.found.0
+answers_job a old new words (ReadFault Orders) j f c = f.reading c.found.0.fails.rose
+answers_job a old new words (ReadFault OffersFile) j f c = f.reading c.found.0.fails.rose
+answers_job a old new words (ReadFault Bill) j f c = c.found
+answers_job a old new words (ReadFault Terms) j f c = c.found
+answers_job a old new words (ReadFault TreeFile) j f c = c.found
+answers_job a old new words (WriteFault Out) j f c = f.printing c.0
+answers_job a old new words (WriteFault Tree) j f c = c

@@ -1,0 +1,12 @@
+pub mod Words
+pub mod Plain
+pub mod PlanText
+pub mod Rows
+pub mod OneText
+pub mod OneJob
+pub mod PlainRows
+pub mod JobDecides
+pub mod Answers
+pub mod FileRead
+pub mod Finds
+pub mod Runs

@@ -1,0 +1,49 @@
+use tqd_instance::Plan;
+
+/// The files that a command reads.
+#[derive(Clone, Copy, Debug, PartialEq, Eq)]
+pub enum InputFile {
+    Orders,
+    Bill,
+    Offers,
+    Terms,
+    Tree,
+}
+
+/// Where a command writes: the file of the tree, or the output.
+#[derive(Clone, Copy, Debug, PartialEq, Eq)]
+pub enum Target {
+    Tree,
+    Out,
+}
+
+/// How a command ended.
+#[derive(Debug, Drop)]
+pub enum Answer {
+    /// A least purchase, and its cost in millionths of the currency.
+    Solved(Plan, u128),
+    /// There is no feasible purchase.
+    Infeasible,
+    /// The words or the files are of a form that is not understood yet.
+    NotBuilt,
+    /// A file could not be read.
+    ReadFault(InputFile),
+    /// A file or the output could not be written.
+    WriteFault(Target),
+    /// Memory was wanting.
+    Memory,
+}
+
+/// How a command ended, and the status that the program ends with.
+#[derive(Debug, Drop)]
+pub struct Ended {
+    pub status: u8,
+    pub answer: Answer,
+}
+
+/// An answer with the text that is to be printed.
+#[derive(Debug, Drop)]
+pub struct Found {
+    pub answer: Answer,
+    pub text: Vec<u8>,
+}

@@ -1,0 +1,18 @@
+//! The commands of the program, from the bytes of the files to the text that is printed.
+#![tactic(auto)]
+
+mod answer;
+mod find;
+mod offers;
+mod parts;
+mod plain;
+mod read;
+mod run;
+mod solve;
+#[cfg(test)]
+mod tests;
+mod text;
+mod words;
+
+pub use answer::{Answer, Ended, InputFile, Target};
+pub use run::run_plain;

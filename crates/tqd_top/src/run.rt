@@ -1,0 +1,71 @@
+ghost use Rattle.std.specs.Prelude.{◌≡◌, IfOk, map, string_bytes};
+ghost use Rattle.tqd_base.specs.World.{NeverFall};
+ghost use Rattle.tqd_top.specs.Answers.{IsFound, HasCause, FailsOnlyInputs, IsJobGiven, IsFaultless, IsAnswerToJob, status_of};
+ghost use Rattle.tqd_top.specs.Runs.{FindsQuietly, PrintGives};
+
+use crate::answer::{Answer, Ended, Found, Target};
+use crate::find::{find_orders, found};
+use crate::words::solve_words;
+use std::alloc::Global;
+use tqd_base::{Desk, DeskStop, Memory};
+
+// The answer that the words and the files call for, with its text.
+fn find<D: Desk>(alloc: Global, words: &[String], desk: &mut D) -> Result<Found, Memory>
+    ensures quiet { FindsQuietly (D.state desk.old) (D.state desk.new) (map string_bytes words.now) }
+    ensures found { IfOk result (λ found. IsFound D.absent_is_empty (D.state desk.old) (D.state desk.new) (map string_bytes words.now) found.answer found.text.items) }
+{
+    match solve_words(words) {
+        Some(names) => find_orders(alloc, desk, names.orders, names.offers),
+        None => found(alloc, Answer::NotBuilt, "not built"),
+    }
+}
+
+// Prints the text of an answer; where that fails, the answer is the fault.
+fn print<D: Desk>(desk: &mut D, found: Found) -> Answer
+    ensures { PrintGives (D.state desk.old) (D.state desk.new) found.answer found.text.items result }
+{
+    match desk.out(&found.text) {
+        Ok(()) => found.answer,
+        Err(DeskStop::Failed) => Answer::WriteFault(Target::Out),
+        Err(DeskStop::Memory) => Answer::Memory,
+    }
+}
+
+// The status that the program ends with.
+fn status(answer: &Answer) -> u8
+    ensures { result ≡ status_of answer.now }
+{
+    match answer {
+        Answer::Solved(_, _) => 0,
+        Answer::Infeasible => 1,
+        Answer::ReadFault(_) => 5,
+        Answer::WriteFault(_) => 6,
+        Answer::Memory => 7,
+        Answer::NotBuilt => 8,
+    }
+}
+
+/// Runs the command that the words give, on the caller's thread. It waits for nobody and always returns.
+///
+/// The words `solve ORDERS - OFFERS - -` find a least purchase of the job that two plain files state and print it. Every
+/// answer but WriteFault and Memory prints its text as the last act; if that fails, the answer is WriteFault(Out). No
+/// file changes, and every slot that was opened is closed.
+pub fn run_plain<D: Desk>(alloc: Global, words: &[String], desk: &mut D) -> Ended
+    ensures status { result.status ≡ status_of result.answer }
+    ensures cause { HasCause D.absent_is_empty (D.state desk.old) (D.state desk.new) (map string_bytes words.now) result.answer }
+    ensures inputs { FailsOnlyInputs (D.state desk.old) (D.state desk.new) (map string_bytes words.now) }
+    ensures never_fall { NeverFall (D.state desk.old).faults (D.state desk.new).faults }
+
+    // Plain files without a fault bring an answer to the job, or the want of memory.
+    ensures complete { IsJobGiven D.absent_is_empty (D.state desk.old).world (map string_bytes words.now)
+        → IsFaultless (D.state desk.old) (D.state desk.new) → IsAnswerToJob result.answer }
+{
+    let answer = match find(alloc, words, desk) {
+        Ok(found) => print(desk, found),
+        Err(_) => Answer::Memory,
+    };
+    Ended {
+        status: status(&answer),
+        answer,
+    }
+}
