@@ -5,6 +5,10 @@ use tqd_base::{DeskCall, Memory, MemoryDesk, SureDesk};
 
 const OFFERS: &str = "supplier,from,part,price\nA,1,r,0.10\nA,100,r,0.08\n";
 
+/// What is printed for 100 units at those offers.
+const ON_THE_STEP: &str =
+    "solved\t8.000000\nsupplier\tA\t100\t100\t8.000000\nbuy\tr\t100\t0.080000\t8.000000\n";
+
 // The words of a command line.
 fn words_of(alloc: Global, line: &str) -> Result<Vec<String>, Fail> {
     let mut words = Vec::new(alloc);
@@ -22,67 +26,64 @@ fn desk_with(alloc: Global, orders: &str, offers: &str) -> Result<MemoryDesk, Me
     Ok(desk)
 }
 
+/// The line of an order, the file of offers, the status and what is printed.
+const ORDERS: [(&str, &str, u8, &str); 10] = [
+    // exactly on the step
+    ("r,100", OFFERS, 0, ON_THE_STEP),
+    // one below the step
+    (
+        "r,99",
+        OFFERS,
+        0,
+        "solved\t9.900000\nsupplier\tA\t99\t1\t9.900000\nbuy\tr\t99\t0.100000\t9.900000\n",
+    ),
+    (
+        "r,90",
+        OFFERS,
+        0,
+        "solved\t9.000000\nsupplier\tA\t90\t1\t9.000000\nbuy\tr\t90\t0.100000\t9.000000\n",
+    ),
+    // below the first interval
+    (
+        "r,30",
+        "supplier,from,part,price\nA,50,r,0.10\n",
+        1,
+        "infeasible\n",
+    ),
+    // another part, a number that does not rise, a wrong header, no line feed at the end, nothing ordered
+    ("q,100", OFFERS, 8, "not built\n"),
+    (
+        "r,100",
+        "supplier,from,part,price\nA,2,r,0.10\nA,2,r,0.08\n",
+        8,
+        "not built\n",
+    ),
+    (
+        "r,100",
+        "supplier,part,from,price\nA,1,r,0.10\n",
+        8,
+        "not built\n",
+    ),
+    (
+        "r,100",
+        "supplier,from,part,price\nA,1,r,0.10",
+        8,
+        "not built\n",
+    ),
+    ("r,0", OFFERS, 8, "not built\n"),
+    // two suppliers and two parts
+    (
+        "x,100\ny,50",
+        "supplier,from,part,price\nA,1,x,1.00\nA,1,y,2.00\nB,1,x,0.95\nB,1,y,1.60\n",
+        8,
+        "not built\n",
+    ),
+];
+
 #[test]
 fn prints_the_least_purchase(rt: HostRuntime) -> Result<(), Fail> {
     let alloc = rt.alloc();
-    let cases = [
-        // exactly on the step
-        (
-            "r,100",
-            OFFERS,
-            0,
-            "solved\t8.000000\nsupplier\tA\t100\t100\t8.000000\nbuy\tr\t100\t0.080000\t8.000000\n",
-        ),
-        // one below the step
-        (
-            "r,99",
-            OFFERS,
-            0,
-            "solved\t9.900000\nsupplier\tA\t99\t1\t9.900000\nbuy\tr\t99\t0.100000\t9.900000\n",
-        ),
-        (
-            "r,90",
-            OFFERS,
-            0,
-            "solved\t9.000000\nsupplier\tA\t90\t1\t9.000000\nbuy\tr\t90\t0.100000\t9.000000\n",
-        ),
-        // below the first interval
-        (
-            "r,30",
-            "supplier,from,part,price\nA,50,r,0.10\n",
-            1,
-            "infeasible\n",
-        ),
-        // another part, a number that does not rise, a wrong header, no line feed at the end
-        ("q,100", OFFERS, 8, "not built\n"),
-        (
-            "r,100",
-            "supplier,from,part,price\nA,2,r,0.10\nA,2,r,0.08\n",
-            8,
-            "not built\n",
-        ),
-        (
-            "r,100",
-            "supplier,part,from,price\nA,1,r,0.10\n",
-            8,
-            "not built\n",
-        ),
-        (
-            "r,100",
-            "supplier,from,part,price\nA,1,r,0.10",
-            8,
-            "not built\n",
-        ),
-        ("r,0", OFFERS, 8, "not built\n"),
-        // two suppliers and two parts
-        (
-            "x,100\ny,50",
-            "supplier,from,part,price\nA,1,x,1.00\nA,1,y,2.00\nA,150,x,0.90\nA,150,y,1.50\nB,1,x,0.95\nB,1,y,1.60\n",
-            8,
-            "not built\n",
-        ),
-    ];
-    for (order, offers, status, text) in cases {
+    for (order, offers, status, text) in ORDERS {
         let orders = format!(in alloc; "product,quantity\n{order}\n")?;
         let mut desk = desk_with(alloc, &orders, offers).map_err(|_| "memory")?;
         let words = words_of(alloc, "solve o - f - -")?;
