@@ -12,3 +12,4 @@ pub mod SupplierFacts
 pub mod JobBuilds
 pub mod JobSame
 pub mod Froms
+pub mod FromsExist

@@ -35,7 +35,6 @@ impl Job {
       pick,
     };
 
-    #[tactic(auto, unfolding(crate::specs::Job::goods))]
     pub(crate) fn of(
         needs: Numbers,
         mosts: Numbers,

@@ -2,7 +2,9 @@
 ghost use Rattle.std.specs.Prelude.{List, ℕ, ◌<◌, ◌≡◌};
 ghost use Rattle.tqd_instance.specs.Job.{suppliers};
 ghost use Rattle.tqd_instance.specs.InRange.{IsInRange};
-ghost use Rattle.tqd_instance.specs.Parts.{AreFroms};
+ghost use Rattle.tqd_instance.specs.Parts.{AreFroms, IsWellFormed};
+ghost use Rattle.tqd_instance.specs.Built.{IsJobOf};
+ghost use Rattle.tqd_instance.specs.declared.job.Job.{Job};
 ghost use Rattle.tqd_instance.specs.Picks.{PicksWhereItLies};
 
 use crate::job::Job;
@@ -21,4 +23,14 @@ pub fn total_picks_where_it_lies(_job: &Job)
 /// The numbers at which the intervals of a supplier begin are one list.
 pub fn intervals_begin_at_one_list(_parts: &JobParts)
     ensures { (i : ℕ) (a b : List ℕ) → AreFroms _parts.now i a → AreFroms _parts.now i b → a ≡ b }
+{}
+
+/// There is such a list for each supplier of well-formed parts, so that no word about it speaks of nothing.
+pub fn intervals_of_a_supplier_begin_somewhere(_parts: &JobParts)
+    ensures { IsWellFormed _parts.now → (i : ℕ) → (froms : List ℕ) × AreFroms _parts.now i froms }
+{}
+
+/// Well-formed parts describe at most one job.
+pub fn parts_describe_one_job(_parts: &JobParts)
+    ensures { IsWellFormed _parts.now → (a b : Job) → IsJobOf _parts.now a → IsJobOf _parts.now b → a ≡ b }
 {}

@@ -4,8 +4,12 @@
 //! and the selected interval prices every one of those units. `specs/` has the definitions that every theorem of
 //! the program speaks of: `Job`, `Purchase`, `Feasible`, `Cost` and `Least`, over all matrices of whole numbers.
 //!
-//! `Job::build` makes the job that the parts describe, or refuses them by the first test that fails.
-//! `Job::standing` says whether a plan is feasible and what it costs, or which test of feasibility it fails first.
+//! `Job::build` makes the job that well-formed parts describe, or refuses them by the first test that they fail, each
+//! refusal exactly where its test is the first. `JobParts::is_well_formed` tests parts of which that is not known.
+//! `Job::standing` says whether a plan is feasible and what it costs, or which test of feasibility it fails first;
+//! `Job::pick` gives the segment that a total selects. `Job::same` says whether two jobs have the same numbers.
+//! `laws` has what follows from the definitions alone: the ranges of a job's numbers, what a pick is, and that
+//! well-formed parts describe one job.
 #![tactic(auto)]
 
 mod build;

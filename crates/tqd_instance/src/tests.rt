@@ -3,7 +3,7 @@ ghost use Rattle.tqd_instance.specs.Plan.{IsSizedFor};
 
 use crate::{
     FeeRow, Job, JobFault, JobParts, Over, OverRow, Plan, PriceRow, ShareRow, Standing, StockRow,
-    TotalRow,
+    TotalRow, laws,
 };
 use std::alloc::Global;
 use std::process::Abort;
@@ -314,5 +314,7 @@ fn a_job_is_the_same_as_one_of_the_same_parts(rt: HostRuntime) -> Result<(), Fai
     let other = built(&rt, alloc, &two_suppliers(alloc)?)?;
     assert!(rt; job.same(&again));
     assert!(rt; !job.same(&other));
+    laws::job_is_in_range(&job);
+    laws::total_picks_where_it_lies(&job);
     Ok(())
 }
