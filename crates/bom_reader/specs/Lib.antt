@@ -1,0 +1,4 @@
+pub mod Names
+pub mod Bill
+pub mod Faults
+pub mod Files
