@@ -8,7 +8,7 @@ use Rattle.std.specs.List.{list_any, position, position_or_len, AllPairs, IsDist
 use Rattle.std.specs.Str.{bytes_eq}
 use Rattle.std.specs.String.{string_bytes, string_eq}
 use Rattle.indexmap.specs.IndexSet.{insert_key}
-use Rattle.bom_reader.specs.Names.{number_of, with_name}
+use Rattle.bom_reader.specs.Names.{has_name, number_of, with_name}
 use Rattle.bom_reader.proofs.Places.{position-map, list_any-map, passes-some, passes-none, position-inside, place_last}
 
 abbrev pub texts : List (String Global) → List (List ℕ)
@@ -32,6 +32,9 @@ with_name-known names name n e = rw (passes-some (bytes_eq name) names n e) refl
 
 pub with_name-new : (names : List (List ℕ)) (name : List ℕ) → number_of names name ≡ None → with_name names name ≡ names ++ name ∷ []
 with_name-new names name e = rw (passes-none (bytes_eq name) names e) refl
+
+pub with_name-other : (names : List (List ℕ)) (name : List ℕ) → has_name names name ≡ false → with_name names name ≡ names ++ name ∷ []
+with_name-other names name e = rw e refl
 
 pub is_same : (name : List ℕ) → bytes_eq name name ≡ true
 is_same name = (bytes_decides name name).1 refl

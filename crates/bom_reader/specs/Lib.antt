@@ -1,4 +1,6 @@
 pub mod Names
 pub mod Bill
 pub mod Faults
-pub mod Files
+pub mod Rows
+pub mod Orders
+pub mod Lines

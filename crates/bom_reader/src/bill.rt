@@ -1,6 +1,6 @@
 ghost use Rattle.std.specs.Prelude.{◌≡◌, []};
 ghost use Rattle.bom_reader.specs.Faults.{Answers};
-ghost use Rattle.bom_reader.specs.Files.{bill_in};
+ghost use Rattle.bom_reader.specs.Lines.{bill_in};
 
 use crate::fault::BillFault;
 use crate::line::Line;

@@ -16,6 +16,7 @@ pub mod laws;
 mod line;
 mod names;
 mod orders;
+mod reading;
 
 pub use bill::{Bill, no_bill, read_bill};
 pub use fault::BillFault;
