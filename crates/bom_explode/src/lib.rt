@@ -1,0 +1,6 @@
+//! A stub while the crate is written elsewhere.
+#![tactic(auto)]
+
+mod needs;
+
+pub use needs::Needs;

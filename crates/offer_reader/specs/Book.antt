@@ -1,0 +1,52 @@
+-- What was read of offers and terms.
+use Rattle.std.specs.Prelude.{ℕ, ◌≡◌, List, [], length, Result}
+use Rattle.std.specs.Result.{result_map_both}
+use Rattle.bom_reader.specs.Faults.{and_then}
+use Rattle.tqd_instance.specs.PartsData.{PartsData}
+use Rattle.tqd_instance.specs.Parts.{IsWellFormed}
+use Rattle.offer_reader.specs.Offers.{Wanted, OffersData, offer_rows, checked_offers}
+use Rattle.offer_reader.specs.declared.fault.OfferFault.{OfferFault}
+
+-- everyone who stands in a row of the offers, every part that does, the suppliers of goods, and the parts of the job
+pub record BookData : Type 0 where
+  pub sellers : List (List ℕ)
+  pub offered : List (List ℕ)
+  pub suppliers : List (List ℕ)
+  pub parts : PartsData
+
+-- the parts of a job with these needs, suppliers and prices, and without terms
+abbrev pub parts_of : List ℕ → OffersData → PartsData
+parts_of needs offers = record {
+  suppliers = length offers.suppliers;
+  needs = needs;
+  prices = offers.prices;
+  stocks = [];
+  totals = [];
+  shares = [];
+  fees = [];
+  overs = [];
+  least_winners = 0;
+  most_winners = 64;
+}
+
+abbrev pub book_of : List ℕ → OffersData → BookData
+book_of needs offers = record { sellers = offers.sellers; offered = offers.offered; suppliers = offers.suppliers; parts = parts_of needs offers }
+
+-- no terms are in the parts yet
+pub record HasNoTerms (parts : PartsData) : Type 0 where
+  pub stocks : parts.stocks ≡ []
+  pub totals : parts.totals ≡ []
+  pub shares : parts.shares ≡ []
+  pub fees : parts.fees ≡ []
+  pub overs : parts.overs ≡ []
+  pub least_winners : parts.least_winners ≡ 0
+  pub most_winners : parts.most_winners ≡ 64
+
+-- what every book keeps
+pub record IsBook (book : BookData) : Type 0 where
+  pub suppliers : book.parts.suppliers ≡ length book.suppliers
+  pub formed : IsWellFormed book.parts
+
+-- the book that a file of offers gives, where the goods need these units; or the fault
+abbrev pub book_in : Wanted → List ℕ → List ℕ → Result BookData OfferFault
+book_in wanted needs bytes = and_then (λ rows. result_map_both (book_of needs) (λ fault. fault) (checked_offers wanted rows)) (offer_rows bytes)

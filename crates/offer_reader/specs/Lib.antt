@@ -1,0 +1,4 @@
+pub mod Offers
+pub mod Book
+pub mod Reading
+pub mod Terms
