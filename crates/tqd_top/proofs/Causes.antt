@@ -1,13 +1,13 @@
 -- From what was found and printed to the cause of the answer.
-use Rattle.std.proofs.Common.{ℕ, ◌≡◌, ◌≤◌, Bool, List, [], ◌∷◌, Option, None, Some, take, refl, sym, ◌∙◌, ap, subst, arith, inl, inr}
+use Rattle.std.proofs.Common.{ℕ, ◌≡◌, ◌≤◌, Bool, List, [], Option, None, Some, take, refl, sym, ◌∙◌, ap, subst, arith, inl, inr}
 use Rattle.std.specs.Prelude.{IsSome, IfSome, unwrap_or}
 use Rattle.std.specs.Option.{option_map}
 use Rattle.tqd_base.specs.World.{World, State, Name, Bytes, NeverFall, Rose, bytes_at, print}
 use Rattle.tqd_top.specs.declared.answer.InputFile.TheVariants.{Orders, Bill, Offers as OffersFile, Terms, Tree as TreeFile}
 use Rattle.tqd_top.specs.declared.answer.Target.TheVariants.{Tree, Out}
 use Rattle.tqd_top.specs.declared.answer.Answer.{Answer}
-use Rattle.tqd_top.specs.declared.answer.Answer.TheVariants.{Solved, Infeasible, NotBuilt, ReadFault, WriteFault, Memory}
-use Rattle.tqd_top.specs.Words.{IsSolve}
+use Rattle.tqd_top.specs.declared.answer.Answer.TheVariants.{Solved, Infeasible, Words, NotBuilt, ReadFault, WriteFault, Memory}
+use Rattle.tqd_top.specs.Words.{Asked, FilesNamed, IsNoForm, IsSolve, ToSolve, two_files}
 use Rattle.tqd_top.specs.Plain.{Order, Offers, plain_order, plain_offers}
 use Rattle.tqd_top.specs.Answers.{ReadsAs, StatesOrder, StatesOffers, StatesNoOrder, StatesNoOffers, FailsAt, IsFound, IsNotBuilt, IsCutOff, HasCause, FailsOnlyInputs, IsJobGiven, IsFaultless, IsAnswerToJob}
 use Rattle.tqd_top.specs.Runs.{FindsQuietly, PrintGives, Grows}
@@ -31,6 +31,7 @@ found_still : (a : Bool) (old mid new : State) (words : List Name) (answer : Ans
     → IsFound a old mid words answer text → IsFound a old new words answer text
 found_still a old mid new words (Solved plan amount) text falls kept f = f
 found_still a old mid new words Infeasible text falls kept f = f
+found_still a old mid new words Words text falls kept f = f
 found_still a old mid new words NotBuilt text falls kept f = f
 found_still a old mid new words (ReadFault Orders) text falls kept f = (
   record {
@@ -62,6 +63,7 @@ printed : (a : Bool) (old new : State) (words : List Name) (answer : Answer) (te
     → new.world ≡ print old.world text → HasCause a old new words answer
 printed a old new words (Solved plan amount) text f w = record { text = text; found = f; world = w }
 printed a old new words Infeasible text f w = record { text = text; found = f; world = w }
+printed a old new words Words text f w = record { text = text; found = f; world = w }
 printed a old new words NotBuilt text f w = record { text = text; found = f; world = w }
 printed a old new words (ReadFault file) text f w = record { text = text; found = f; world = w }
 printed a old new words (WriteFault target) text f w = absurd f
@@ -101,11 +103,13 @@ inputs_of old mid new words q kept = λ told. elim (q.named told) [
 ]
 
 -- the names of two readings of the words are one
-six_same : (c o d f t r c' p d' g t' r' : Name) → c ∷ o ∷ d ∷ f ∷ t ∷ r ∷ [] ≡ c' ∷ p ∷ d' ∷ g ∷ t' ∷ r' ∷ [] → (o ≡ p) × (f ≡ g)
-six_same c o d f t r c' p d' g t' r' e = (cc, cc)
+two_same : (o f p g : Name) (n m : ℕ) → Some (ToSolve (two_files o f) None n) ≡ Some (ToSolve (two_files p g) None m) → (o ≡ p) × (f ≡ g)
+two_same o f p g n m e =
+    let same : two_files o f ≡ two_files p g = cc in
+    (ap (λ (files : FilesNamed). files.orders) same, ap (λ (files : FilesNamed). files.offers) same)
 
 names_same : (words : List Name) (o f p g : Name) → IsSolve words o f → IsSolve words p g → (o ≡ p) × (f ≡ g)
-names_same words o f p g a b = six_same _ o _ f _ _ _ p _ g _ _ (sym a.words_are ∙ b.words_are)
+names_same words o f p g a b = two_same o f p g _ _ (sym a.words_are ∙ b.words_are)
 
 -- two readings of one name, where the files are told, give the same bytes
 one_reading : (o : Option Bytes) (b c : Bytes) → IsSome o → IfSome o (λ file. b ≡ file) → IfSome o (λ file. c ≡ file) → b ≡ c
@@ -126,6 +130,9 @@ some_none e = cc
 some_none_offers : {offers : Offers} → Some offers ≡ None → ⊥
 some_none_offers e = cc
 
+some_none_asked : {command : Asked} → Some command ≡ None → ⊥
+some_none_asked e = cc
+
 some_orders : (p q : Order) → Some p ≡ Some q → p ≡ q
 some_orders p q e = cc
 
@@ -145,7 +152,7 @@ same_order a w name other p q told e s t =
     some_orders p q (sym s.stated ∙ ap plain_order same ∙ t.stated)
 
 not_unbuilt : (a : Bool) (w : World) (words : List Name) → IsJobGiven a w words → IsNotBuilt a w words → ⊥
-not_unbuilt a w words j (inl no_words) = no_words j.orders_name j.offers_name j.is_solve
+not_unbuilt a w words j (inl other) = other.other j.orders_name j.offers_name j.is_solve
 not_unbuilt a w words j (inr (inl none)) =
     let names = names_same words j.orders_name j.offers_name none.orders_name none.offers_name j.is_solve none.is_solve in
     no_order a w j.orders_name none.orders_name j.order j.told names.0 j.orders_stated none.not_stated
@@ -155,12 +162,16 @@ not_unbuilt a w words j (inr (inr none)) =
     no_offers a w j.offers_name none.offers_name none.order.part j.offers j.told names.1
     (subst (λ (o : Order). StatesOffers a w j.offers_name o.part j.offers) order j.offers_stated) none.not_stated
 
+solve_is_form : (words : List Name) (o f : Name) → IsSolve words o f → IsNoForm words → ⊥
+solve_is_form words o f s none = some_none_asked (sym s.words_are ∙ none)
+
 -- plain files without a fault bring an answer to the job, or the want of memory
 pub answers_job : (a : Bool) (old new : State) (words : List Name) (answer : Answer) → IsJobGiven a old.world words → IsFaultless old new
     → HasCause a old new words answer → IsAnswerToJob answer
 answers_job a old new words (Solved plan amount) j f c = tt
 answers_job a old new words Infeasible j f c = tt
 answers_job a old new words Memory j f c = tt
+answers_job a old new words Words j f c = solve_is_form words j.orders_name j.offers_name j.is_solve c.found.0
 answers_job a old new words NotBuilt j f c = not_unbuilt a old.world words j c.found.0
 answers_job a old new words (ReadFault Orders) j f c = f.reading c.found.0.fails.rose
 answers_job a old new words (ReadFault OffersFile) j f c = f.reading c.found.0.fails.rose

@@ -12,7 +12,7 @@ use Rattle.tqd_instance.specs.declared.parts.PriceRow.{PriceRow}
 use Rattle.std.proofs.lemmas.Option.{option_and_then_some}
 use Rattle.tqd_top.specs.declared.answer.InputFile.TheVariants.{Orders, Bill, Offers as OffersFile, Terms, Tree as TreeFile}
 use Rattle.tqd_top.specs.declared.answer.Answer.{Answer}
-use Rattle.tqd_top.specs.declared.answer.Answer.TheVariants.{Solved, Infeasible, NotBuilt, ReadFault, WriteFault, Memory}
+use Rattle.tqd_top.specs.declared.answer.Answer.TheVariants.{Solved, Infeasible, Words, NotBuilt, ReadFault, WriteFault, Memory}
 use Rattle.tqd_top.specs.declared.answer.Found.{Found}
 use Rattle.tqd_top.specs.PlainRows.{AreRows}
 use Rattle.tqd_top.specs.Plain.{Order, Offers, order_line, order_of, behind, cut, offers_of, offer_lines, plain_order, plain_offers, within_limit, is_plain_name, same}
@@ -109,6 +109,7 @@ by_bytes : (a : Bool) (old new : State) (name : Name) (order : Order) (bytes : B
     → BytesAnswer order bytes answer text → OffersAnswer a old new name order answer text
 by_bytes a old new name order bytes (Solved plan amount) text reads b = record { offers = b.offers; stated = record { bytes = bytes; reads = reads; stated = b.stated }; decides = b.decides }
 by_bytes a old new name order bytes Infeasible text reads b = record { offers = b.offers; stated = record { bytes = bytes; reads = reads; stated = b.stated }; decides = b.decides }
+by_bytes a old new name order bytes Words text reads b = absurd b
 by_bytes a old new name order bytes NotBuilt text reads b = (record { bytes = bytes; reads = reads; unstated = b.unstated }, b.text_is)
 by_bytes a old new name order bytes (ReadFault file) text reads b = absurd b
 by_bytes a old new name order bytes (WriteFault target) text reads b = absurd b
@@ -162,6 +163,7 @@ by_offers a old mid new orders offers order (Solved plan amount) text r stated b
     record { order = order; stated = stated; offers_answer = subst (λ (w : World). OffersOf a w offers order (Solved plan amount) text) r.world b }
 by_offers a old mid new orders offers order Infeasible text r stated b =
     record { order = order; stated = stated; offers_answer = subst (λ (w : World). OffersOf a w offers order Infeasible text) r.world b }
+by_offers a old mid new orders offers order Words text r stated b = absurd b
 by_offers a old mid new orders offers order NotBuilt text r stated b =
     (inr (record { order = order; stated = stated; unstated = subst (λ (w : World). StatesNoOffers a w offers order.part) r.world b.0 }), b.1)
 by_offers a old mid new orders offers order (ReadFault OffersFile) text r stated b = (record { order = order; stated = stated; fails = fails_later old mid new offers r b.0 }, b.1)
@@ -200,6 +202,7 @@ by_names a old new words orders offers Infeasible text w b = record {
   offers_stated = b.offers_answer.stated;
   decides = b.offers_answer.decides;
 }
+by_names a old new words orders offers Words text w b = absurd b
 by_names a old new words orders offers NotBuilt text w b = (
   inr (elim b.0 [
     | inl none ↦ inl (record { orders_name = orders; offers_name = offers; is_solve = w; not_stated = none })

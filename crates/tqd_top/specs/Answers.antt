@@ -7,8 +7,9 @@ use Rattle.tqd_top.specs.declared.answer.InputFile.{InputFile}
 use Rattle.tqd_top.specs.declared.answer.InputFile.TheVariants.{Orders, Bill, Offers as OffersFile, Terms, Tree as TreeFile}
 use Rattle.tqd_top.specs.declared.answer.Target.TheVariants.{Tree, Out}
 use Rattle.tqd_top.specs.declared.answer.Answer.{Answer}
-use Rattle.tqd_top.specs.declared.answer.Answer.TheVariants.{Solved, Infeasible, NotBuilt, ReadFault, WriteFault, Memory}
-use Rattle.tqd_top.specs.Words.{IsSolve}
+use Rattle.tqd_top.specs.declared.answer.Answer.TheVariants.{Solved, Infeasible, Words, NotBuilt, ReadFault, WriteFault, Memory}
+use Rattle.tqd_top.specs.Words.{IsSolve, IsNoForm, IsOtherForm}
+use Rattle.tqd_top.specs.Usage.{usage_text}
 use Rattle.tqd_top.specs.Plain.{Order, Offers, plain_order, plain_offers, parts_of}
 use Rattle.tqd_top.specs.JobDecides.{JobDecides}
 
@@ -16,6 +17,7 @@ use Rattle.tqd_top.specs.JobDecides.{JobDecides}
 abbrev pub status_of : Answer → ℕ
 status_of (Solved plan amount) = 0
 status_of Infeasible = 1
+status_of Words = 2
 status_of (ReadFault file) = 5
 status_of (WriteFault target) = 6
 status_of Memory = 7
@@ -70,10 +72,7 @@ pub record IsDecided (absent_is_empty : Bool) (w : World) (words : List Name) (a
   pub offers_stated : StatesOffers absent_is_empty w offers_name order.part offers
   pub decides : Decides order offers answer text
 
--- the first reason why there is no job: the words, the orders, the offers
-abbrev pub IsNotSolve : List Name → Type 0
-IsNotSolve words = (orders offers : Name) → IsSolve words orders offers → ⊥
-
+-- the first reason why there is no job: another command, the orders, the offers
 pub record HasNoOrder (absent_is_empty : Bool) (w : World) (words : List Name) : Type 0 where
   pub orders_name : Name
   pub offers_name : Name
@@ -89,7 +88,7 @@ pub record HasNoOffers (absent_is_empty : Bool) (w : World) (words : List Name) 
   pub not_stated : StatesNoOffers absent_is_empty w offers_name order.part
 
 abbrev pub IsNotBuilt : Bool → World → List Name → Type 0
-IsNotBuilt absent_is_empty w words = IsNotSolve words ⊎ (HasNoOrder absent_is_empty w words ⊎ HasNoOffers absent_is_empty w words)
+IsNotBuilt absent_is_empty w words = IsOtherForm words ⊎ (HasNoOrder absent_is_empty w words ⊎ HasNoOffers absent_is_empty w words)
 
 -- the count of reading faults rose, and where the files are told the name that failed last is this one
 pub record FailsAt (old new : State) (name : Name) : Type 0 where
@@ -121,6 +120,7 @@ IsReadFault absent_is_empty old new words TreeFile text = ⊥
 abbrev pub IsFound : Bool → State → State → List Name → Answer → Bytes → Type 0
 IsFound absent_is_empty old new words (Solved plan amount) text = IsDecided absent_is_empty old.world words (Solved plan amount) text
 IsFound absent_is_empty old new words Infeasible text = IsDecided absent_is_empty old.world words Infeasible text
+IsFound absent_is_empty old new words Words text = IsNoForm words × (text ≡ usage_text)
 IsFound absent_is_empty old new words NotBuilt text = IsNotBuilt absent_is_empty old.world words × (text ≡ codes "not built" ++ 10 ∷ [])
 IsFound absent_is_empty old new words (ReadFault file) text = IsReadFault absent_is_empty old new words file text
 IsFound absent_is_empty old new words (WriteFault target) text = ⊥
@@ -145,6 +145,7 @@ pub record IsCutOff (absent_is_empty : Bool) (old new : State) (words : List Nam
 abbrev pub HasCause : Bool → State → State → List Name → Answer → Type 0
 HasCause absent_is_empty old new words (Solved plan amount) = IsPrinted absent_is_empty old new words (Solved plan amount)
 HasCause absent_is_empty old new words Infeasible = IsPrinted absent_is_empty old new words Infeasible
+HasCause absent_is_empty old new words Words = IsPrinted absent_is_empty old new words Words
 HasCause absent_is_empty old new words NotBuilt = IsPrinted absent_is_empty old new words NotBuilt
 HasCause absent_is_empty old new words (ReadFault file) = IsPrinted absent_is_empty old new words (ReadFault file)
 HasCause absent_is_empty old new words (WriteFault Out) = Rose old.faults.printing new.faults.printing × IsCutOff absent_is_empty old new words
@@ -167,6 +168,7 @@ abbrev pub IsAnswerToJob : Answer → Type 0
 IsAnswerToJob (Solved plan amount) = Unit {0}
 IsAnswerToJob Infeasible = Unit {0}
 IsAnswerToJob Memory = Unit {0}
+IsAnswerToJob Words = ⊥
 IsAnswerToJob NotBuilt = ⊥
 IsAnswerToJob (ReadFault file) = ⊥
 IsAnswerToJob (WriteFault target) = ⊥

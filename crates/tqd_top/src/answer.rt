@@ -24,7 +24,9 @@ pub enum Answer {
     Solved(Plan, u128),
     /// There is no feasible purchase.
     Infeasible,
-    /// The words or the files are of a form that is not understood yet.
+    /// The words are of none of the forms.
+    Words,
+    /// The command or the files are of a form that is not understood yet.
     NotBuilt,
     /// A file could not be read.
     ReadFault(InputFile),

@@ -5,7 +5,8 @@ ghost use Rattle.tqd_top.specs.Runs.{FindsQuietly, PrintGives};
 
 use crate::answer::{Answer, Ended, Found, Target};
 use crate::find::{find_orders, found};
-use crate::words::solve_words;
+use crate::usage::usage_text;
+use crate::words::read_words;
 use std::alloc::Global;
 use tqd_base::{Desk, DeskStop, Memory};
 
@@ -14,7 +15,14 @@ fn find<D: Desk>(alloc: Global, words: &[String], desk: &mut D) -> Result<Found,
     ensures quiet { FindsQuietly (D.state desk.old) (D.state desk.new) (map string_bytes words.now) }
     ensures found { IfOk result (λ found. IsFound D.absent_is_empty (D.state desk.old) (D.state desk.new) (map string_bytes words.now) found.answer found.text.items) }
 {
-    match solve_words(words) {
+    let Some(command) = read_words(words) else {
+        let text = usage_text(alloc)?;
+        return Ok(Found {
+            answer: Answer::Words,
+            text,
+        });
+    };
+    match command.plain_solve() {
         Some(names) => find_orders(alloc, desk, names.orders, names.offers),
         None => found(alloc, Answer::NotBuilt, "not built"),
     }
@@ -38,6 +46,7 @@ fn status(answer: &Answer) -> u8
     match answer {
         Answer::Solved(_, _) => 0,
         Answer::Infeasible => 1,
+        Answer::Words => 2,
         Answer::ReadFault(_) => 5,
         Answer::WriteFault(_) => 6,
         Answer::Memory => 7,
@@ -47,9 +56,10 @@ fn status(answer: &Answer) -> u8
 
 /// Runs the command that the words give, on the caller's thread. It waits for nobody and always returns.
 ///
-/// The words `solve ORDERS - OFFERS - -` find a least purchase of the job that two plain files state and print it. Every
-/// answer but WriteFault and Memory prints its text as the last act; if that fails, the answer is WriteFault(Out). No
-/// file changes, and every slot that was opened is closed.
+/// The words `solve ORDERS - OFFERS - -`, with or without a number of workers, find a least purchase of the job that two
+/// plain files state and print it; words that are of no form print the usage; all other commands are not built yet.
+/// Every answer but WriteFault and Memory prints its text as the last act; if that fails, the answer is WriteFault(Out).
+/// No file changes, and every slot that was opened is closed.
 pub fn run_plain<D: Desk>(alloc: Global, words: &[String], desk: &mut D) -> Ended
     ensures status { result.status ≡ status_of result.answer }
     ensures cause { HasCause D.absent_is_empty (D.state desk.old) (D.state desk.new) (map string_bytes words.now) result.answer }
