@@ -1,0 +1,5 @@
+pub mod Places
+pub mod NameFacts
+pub mod FirstFault
+pub mod Units
+pub mod OrderFacts

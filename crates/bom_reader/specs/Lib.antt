@@ -1,0 +1,6 @@
+pub mod Names
+pub mod Bill
+pub mod Faults
+pub mod Rows
+pub mod Orders
+pub mod Lines

@@ -1,0 +1,29 @@
+-- Names of products, parts and suppliers. A name is the list of its bytes. Names are compared byte for byte, and numbered
+-- from 0 by their places in a list without repeats.
+use Rattle.std.specs.Prelude.{ℕ, Bool, ◌&&◌, not, ◌==◌, nat_le, if◌then◌else◌, List, [], ◌∷◌, ◌++◌, length, fold, position, Option}
+use Rattle.std.specs.List.{list_all, list_any}
+use Rattle.std.specs.Str.{bytes_eq}
+use Rattle.tqd_base.specs.declared.limits.TheConstants.{NAME_MAX}
+
+-- a byte that a name may hold: none below 32, and not 127
+abbrev pub is_name_byte : ℕ → Bool
+is_name_byte byte = nat_le 32 byte && not (byte == 127)
+
+-- a name: 1 to 64 such bytes
+abbrev pub is_name : List ℕ → Bool
+is_name text = nat_le 1 (length text) && nat_le (length text) NAME_MAX && list_all is_name_byte text
+
+abbrev pub has_name : List (List ℕ) → List ℕ → Bool
+has_name names name = list_any (bytes_eq name) names
+
+-- the number of a name, if it has one
+abbrev pub number_of : List (List ℕ) → List ℕ → Option ℕ
+number_of names name = position (bytes_eq name) names
+
+-- the names with one more, which goes last where it is new
+abbrev pub with_name : List (List ℕ) → List ℕ → List (List ℕ)
+with_name names name = if has_name names name then names else names ++ name ∷ []
+
+-- the names with more of them, in the order of their first appearance
+abbrev pub with_names : List (List ℕ) → List (List ℕ) → List (List ℕ)
+with_names names more = fold with_name names more
