@@ -1,0 +1,5 @@
+pub mod Lines
+pub mod Named
+pub mod PlanText
+pub mod Usage
+pub mod FaultText

@@ -1,0 +1,13 @@
+use crate::file::InputFile;
+use bom_reader::BillFault;
+
+/// The first fault of the files that a command reads.
+#[derive(Clone, Copy, Debug, PartialEq, Eq)]
+pub enum FileFault {
+    /// A file has more bytes than are read: more than 16,777,216, or more than 2^62 in the tree.
+    Size(InputFile),
+    /// A fault of the orders.
+    Orders(BillFault),
+    /// A fault of the bill.
+    Bill(BillFault),
+}

@@ -1,0 +1,20 @@
+//! The texts that the program prints, byte for byte.
+//!
+//! [`plan_text`] gives the text of a feasible plan, [`fault_text`] that of a fault of an input file, [`unread_text`] that
+//! of a file that could not be read, and [`usage_text`] the words of the command line. Each is exactly the definition of
+//! its name in `specs/`; only the want of memory is left open.
+#![tactic(auto)]
+
+mod fault;
+mod causes;
+mod file;
+mod names;
+mod plan;
+mod text;
+mod usage;
+
+pub use fault::FileFault;
+pub use causes::{fault_text, unread_text};
+pub use file::InputFile;
+pub use plan::plan_text;
+pub use usage::usage_text;
