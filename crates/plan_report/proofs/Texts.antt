@@ -40,3 +40,14 @@ line_grown old word a b new fields n first second all third =
     let tabs : Bytes = flat_map (λ (field : Bytes). 9 ∷ field) (map (λ (field : Bor Bytes). field.now) fields) in
     let added : b ≡ a ++ tabs = second ∙ ap (λ (t : Bytes). a ++ t) (ap (flat_map (λ (field : Bor Bytes). 9 ∷ field.now)) (take_all n fields all) ∙ tabbed fields) in
     third ∙ ap (λ (t : Bytes). t ++ 10 ∷ []) (added ∙ ap (λ (t : Bytes). t ++ tabs) first) ∙ simp append_assoc
+
+-- a text that grows six times
+pub grows_six_times : (old a b c d e f t u v w x new : Bytes) (r : Result (Unit {0}) Memory) → t ≡ old ++ a → u ≡ t ++ b → v ≡ u ++ c → w ≡ v ++ d → x ≡ w ++ e
+    → OnOk r (new ≡ x ++ f) → OnOk r (new ≡ old ++ (a ++ b ++ c ++ d ++ e ++ f))
+grows_six_times old a b c d e f t u v w x new (Ok done) p q s h i j =
+    let first : u ≡ old ++ a ++ b = q ∙ ap (λ (z : Bytes). z ++ b) p in
+    let second : v ≡ old ++ a ++ b ++ c = s ∙ ap (λ (z : Bytes). z ++ c) first in
+    let third : w ≡ old ++ a ++ b ++ c ++ d = h ∙ ap (λ (z : Bytes). z ++ d) second in
+    let fourth : x ≡ old ++ a ++ b ++ c ++ d ++ e = i ∙ ap (λ (z : Bytes). z ++ e) third in
+    j ∙ ap (λ (z : Bytes). z ++ f) fourth ∙ simp append_assoc
+grows_six_times old a b c d e f t u v w x new (Err stop) p q s h i j = tt

@@ -1,14 +1,17 @@
 -- The texts of the faults of input files.
-use Rattle.std.specs.Prelude.{ℕ, List, [], ◌∷◌, ◌++◌, codes, decimal}
+use Rattle.std.specs.Prelude.{ℕ, ◌<◌, List, [], ◌∷◌, ◌++◌, length, slice_index, codes, decimal}
 use Rattle.tqd_base.specs.World.{Bytes}
 use Rattle.csv_rows.specs.declared.fault.RowFault.{RowFault}
 use Rattle.csv_rows.specs.declared.fault.RowFault.TheVariants.{Empty, Header, Width, Text}
 use Rattle.bom_reader.specs.declared.fault.BillFault.{BillFault}
 use Rattle.bom_reader.specs.declared.fault.BillFault.TheVariants.{Rows, TooManyLines, Name, Quantity, TooManyNames, Twice}
+use Rattle.tqd_instance.specs.declared.parts.JobFault.{JobFault}
+use Rattle.tqd_instance.specs.declared.parts.JobFault.TheVariants.{TooManyGoods, MissingPrice, ShareOrder, WinnerOrder}
+use Rattle.plan_report.specs.Named.{name_at, good_at}
 use Rattle.plan_report.specs.declared.file.InputFile.{InputFile}
 use Rattle.plan_report.specs.declared.file.InputFile.TheVariants.{Orders, Bill, Offers, Terms, Tree}
 use Rattle.plan_report.specs.declared.fault.FileFault.{FileFault}
-use Rattle.plan_report.specs.declared.fault.FileFault.TheVariants.{Size, Orders as OrdersFault, Bill as BillFaulty}
+use Rattle.plan_report.specs.declared.fault.FileFault.TheVariants.{Size, Orders as InOrders, Bill as InBill, Job as InJob}
 
 abbrev pub file_name : InputFile → Bytes
 file_name Orders = codes "orders"
@@ -42,20 +45,49 @@ bill_cause (Quantity at) = in_row at (codes "bad quantity")
 bill_cause (TooManyNames at) = in_row at (codes "more than 20000 names")
 bill_cause (Twice at) = in_row at (codes "given twice")
 
+-- a supplier offers a part in some interval, and not in the one that begins at this number
+abbrev pub no_price : Bytes → ℕ → Bytes → Bytes
+no_price part from supplier = codes "no price of " ++ part ++ codes " from " ++ decimal from ++ codes " at " ++ supplier
+
+-- the faults of a job; goods and suppliers are numbers of the job
+abbrev pub job_cause : List Bytes → List ℕ → List Bytes → JobFault → Bytes
+job_cause names goods suppliers (TooManyGoods n) = decimal n ++ codes " goods, at most 1000"
+job_cause names goods suppliers (MissingPrice supplier from good) = no_price (good_at names goods good) from (name_at suppliers supplier)
+job_cause names goods suppliers (ShareOrder supplier) = codes "share of " ++ name_at suppliers supplier ++ codes ": low above high"
+job_cause names goods suppliers WinnerOrder = codes "winners: low above high"
+
 -- the file that a fault names
 abbrev pub fault_file : FileFault → Bytes
 fault_file (Size file) = file_name file
-fault_file (OrdersFault fault) = codes "orders"
-fault_file (BillFaulty fault) = codes "bill"
+fault_file (InOrders fault) = codes "orders"
+fault_file (InBill fault) = codes "bill"
+fault_file (InJob fault) = codes "job"
 
 -- what a fault says of it
-abbrev pub fault_cause : FileFault → Bytes
-fault_cause (Size file) = size_cause file
-fault_cause (OrdersFault fault) = bill_cause fault
-fault_cause (BillFaulty fault) = bill_cause fault
+abbrev pub fault_cause : List Bytes → List ℕ → List Bytes → FileFault → Bytes
+fault_cause names goods suppliers (Size file) = size_cause file
+fault_cause names goods suppliers (InOrders fault) = bill_cause fault
+fault_cause names goods suppliers (InBill fault) = bill_cause fault
+fault_cause names goods suppliers (InJob fault) = job_cause names goods suppliers fault
 
-unfoldable pub fault_text : FileFault → Bytes
-fault_text fault = codes "bad input: " ++ fault_file fault ++ codes ": " ++ fault_cause fault ++ 10 ∷ []
+unfoldable pub fault_text : List Bytes → List ℕ → List Bytes → FileFault → Bytes
+fault_text names goods suppliers fault = codes "bad input: " ++ fault_file fault ++ codes ": " ++ fault_cause names goods suppliers fault ++ 10 ∷ []
+
+-- the goods and suppliers in a fault have names
+abbrev pub IsGoodNamed : List Bytes → List ℕ → ℕ → Type 0
+IsGoodNamed names goods k = (k < length goods) × (slice_index goods k < length names)
+
+abbrev pub IsJobFaultNamed : List Bytes → List ℕ → List Bytes → JobFault → Type 0
+IsJobFaultNamed names goods suppliers (TooManyGoods n) = Unit {0}
+IsJobFaultNamed names goods suppliers (MissingPrice supplier from good) = IsGoodNamed names goods good × (supplier < length suppliers)
+IsJobFaultNamed names goods suppliers (ShareOrder supplier) = supplier < length suppliers
+IsJobFaultNamed names goods suppliers WinnerOrder = Unit {0}
+
+abbrev pub IsFaultNamed : List Bytes → List ℕ → List Bytes → FileFault → Type 0
+IsFaultNamed names goods suppliers (Size file) = Unit {0}
+IsFaultNamed names goods suppliers (InOrders fault) = Unit {0}
+IsFaultNamed names goods suppliers (InBill fault) = Unit {0}
+IsFaultNamed names goods suppliers (InJob fault) = IsJobFaultNamed names goods suppliers fault
 
 -- a file that could not be read
 unfoldable pub unread_text : InputFile → Bytes

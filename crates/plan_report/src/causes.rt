@@ -1,13 +1,15 @@
 ghost use Rattle.std.specs.Prelude.{◌≡◌, ◌++◌, IfOk, OnOk};
-ghost use Rattle.plan_report.specs.FaultText.{bill_cause, fault_cause, fault_file, fault_text, file_name, in_row, rows_cause, size_cause, unread_text};
+ghost use Rattle.plan_report.specs.FaultText.{IsFaultNamed, IsJobFaultNamed, bill_cause, fault_cause, fault_file, fault_text, file_name, in_row, job_cause, no_price, rows_cause, size_cause, unread_text};
 
 use crate::fault::FileFault;
 use crate::file::InputFile;
+use crate::names::Names;
 use crate::text::{add_number, add_word};
-use bom_reader::BillFault;
+use bom_reader::{BillFault, NameList};
 use csv_rows::RowFault;
 use std::alloc::Global;
 use tqd_base::Memory;
+use tqd_instance::JobFault;
 
 // The name of a file in a text.
 fn file_name(file: InputFile) -> &'static str
@@ -73,6 +75,55 @@ fn add_bill_cause(alloc: Global, text: &mut Vec<u8>, fault: BillFault) -> Result
     }
 }
 
+fn add_no_price(
+    alloc: Global,
+    text: &mut Vec<u8>,
+    part: &str,
+    from: u64,
+    supplier: &str,
+) -> Result<(), Memory>
+    ensures { OnOk result (text.new.items ≡ text.old.items ++ no_price part.now from supplier.now) }
+{
+    add_word(text, "no price of ")?;
+    add_word(text, part)?;
+    add_word(text, " from ")?;
+    add_number(alloc, text, from)?;
+    add_word(text, " at ")?;
+    add_word(text, supplier)
+}
+
+#[tactic(auto, using(crate::proofs::Texts::appends))]
+fn add_job_cause(
+    alloc: Global,
+    text: &mut Vec<u8>,
+    fault: JobFault,
+    names: &Names<'_>,
+) -> Result<(), Memory>
+    requires { IsJobFaultNamed names.now.names.now names.now.goods.now names.now.suppliers.now fault }
+    ensures { OnOk result (text.new.items ≡ text.old.items ++ job_cause names.now.names.now names.now.goods.now names.now.suppliers.now fault) }
+{
+    match fault {
+        JobFault::TooManyGoods(count) => {
+            add_number(alloc, text, count)?;
+            add_word(text, " goods, at most 1000")
+        }
+        JobFault::MissingPrice {
+            supplier,
+            from,
+            good,
+        } => {
+            let part = names.good(good as usize);
+            add_no_price(alloc, text, part, from, names.supplier(supplier as usize))
+        }
+        JobFault::ShareOrder { supplier } => {
+            add_word(text, "share of ")?;
+            add_word(text, names.supplier(supplier as usize))?;
+            add_word(text, ": low above high")
+        }
+        JobFault::WinnerOrder => add_word(text, "winners: low above high"),
+    }
+}
+
 fn fault_file(fault: &FileFault) -> &'static str
     ensures { result.now ≡ fault_file fault.now }
 {
@@ -80,29 +131,52 @@ fn fault_file(fault: &FileFault) -> &'static str
         FileFault::Size(file) => file_name(*file),
         FileFault::Orders(_) => "orders",
         FileFault::Bill(_) => "bill",
+        FileFault::Job(_) => "job",
     }
 }
 
-fn add_cause(alloc: Global, text: &mut Vec<u8>, fault: &FileFault) -> Result<(), Memory>
-    ensures { OnOk result (text.new.items ≡ text.old.items ++ fault_cause fault.now) }
+fn add_cause(
+    alloc: Global,
+    text: &mut Vec<u8>,
+    fault: &FileFault,
+    names: &Names<'_>,
+) -> Result<(), Memory>
+    requires { IsFaultNamed names.now.names.now names.now.goods.now names.now.suppliers.now fault.now }
+    ensures { OnOk result (text.new.items ≡ text.old.items ++ fault_cause names.now.names.now names.now.goods.now names.now.suppliers.now fault.now) }
 {
     match fault {
         FileFault::Size(file) => add_word(text, size_cause(*file)),
         FileFault::Orders(fault) => add_bill_cause(alloc, text, *fault),
         FileFault::Bill(fault) => add_bill_cause(alloc, text, *fault),
+        FileFault::Job(fault) => add_job_cause(alloc, text, *fault, names),
     }
 }
 
-/// The text of a fault of an input file: the file, and the cause. Rows are numbered from 1, which is the header.
+/// The text of a fault of the files: the file, and the cause. Rows are numbered from 1, which is the header.
+///
+/// `goods` has for each good of the job the number of its name in `names`, and `suppliers` the names of the suppliers, as
+/// far as they are known where the fault comes.
 #[tactic(auto, unfolding(crate::specs::FaultText::fault_text))]
-pub fn fault_text(alloc: Global, fault: &FileFault) -> Result<Vec<u8>, Memory>
-    ensures { IfOk result (λ text. text.items ≡ fault_text fault.now) }
+pub fn fault_text(
+    alloc: Global,
+    fault: &FileFault,
+    names: &NameList,
+    goods: &[u32],
+    suppliers: &NameList,
+) -> Result<Vec<u8>, Memory>
+    requires { IsFaultNamed names.now goods.now suppliers.now fault.now }
+    ensures { IfOk result (λ text. text.items ≡ fault_text names.now goods.now suppliers.now fault.now) }
 {
+    let named = Names {
+        names,
+        goods,
+        suppliers,
+    };
     let mut text = Vec::new(alloc);
     add_word(&mut text, "bad input: ")?;
     add_word(&mut text, fault_file(fault))?;
     add_word(&mut text, ": ")?;
-    add_cause(alloc, &mut text, fault)?;
+    add_cause(alloc, &mut text, fault, &named)?;
     add_word(&mut text, "\n")?;
     Ok(text)
 }

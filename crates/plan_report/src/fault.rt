@@ -1,5 +1,6 @@
 use crate::file::InputFile;
 use bom_reader::BillFault;
+use tqd_instance::JobFault;
 
 /// The first fault of the files that a command reads.
 #[derive(Clone, Copy, Debug, PartialEq, Eq)]
@@ -10,4 +11,6 @@ pub enum FileFault {
     Orders(BillFault),
     /// A fault of the bill.
     Bill(BillFault),
+    /// A fault of the job that the files state.
+    Job(JobFault),
 }
