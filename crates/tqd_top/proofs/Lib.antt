@@ -1,3 +1,4 @@
+pub mod BillFiles
 pub mod Causes
 pub mod FileReads
 pub mod FoundLemmas

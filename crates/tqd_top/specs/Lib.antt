@@ -11,3 +11,5 @@ pub mod Answers
 pub mod FileRead
 pub mod Finds
 pub mod Runs
+pub mod Listing
+pub mod Steps

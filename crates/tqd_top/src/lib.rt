@@ -3,6 +3,8 @@
 
 mod answer;
 mod find;
+mod halt;
+mod input;
 mod offers;
 mod parts;
 mod plain;
