@@ -14,6 +14,7 @@ mod bill;
 mod fault;
 pub mod laws;
 mod line;
+mod lines;
 mod names;
 mod orders;
 mod reading;
