@@ -18,6 +18,8 @@ mod lines;
 mod names;
 mod orders;
 mod reading;
+#[cfg(test)]
+mod tests;
 
 pub use bill::{Bill, no_bill, read_bill};
 pub use fault::BillFault;
