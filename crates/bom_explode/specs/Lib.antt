@@ -1,0 +1,5 @@
+pub mod Structure
+pub mod Below
+pub mod Sum
+pub mod Needs
+pub mod Laws

@@ -1,0 +1,4 @@
+//! The explosion of a bill of materials.
+#![tactic(auto)]
+
+pub mod laws;
