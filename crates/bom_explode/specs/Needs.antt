@@ -30,7 +30,7 @@ pub record AreGoods (s : Structure) (need : ℕ → ℕ) (goods units : List ℕ
   pub each : (k : ℕ) → k < length goods → IsGood s need (slice_index goods k)
   pub all : (n : ℕ) → IsGood s need n → (k : ℕ) × (k < length goods) × (slice_index goods k ≡ n)
   pub as_many : length units ≡ length goods
-  pub units : (k : ℕ) → k < length goods → slice_index units k ≡ need (slice_index goods k)
+  pub needs : (k : ℕ) → k < length goods → slice_index units k ≡ need (slice_index goods k)
 
 -- n is the least name that needs more than can be counted
 pub record IsLeastAbove (s : Structure) (need : ℕ → ℕ) (n : ℕ) : Type 0 where
