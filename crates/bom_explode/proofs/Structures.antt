@@ -53,7 +53,15 @@ IsStructure-of bill b =
 
 -- a structure is one whichever way it is read
 pub IsStructure-along : (way : Way) (s : Structure) → IsStructure s → IsStructure (along way s)
-IsStructure-along Down s h = h
+IsStructure-along Down s h = record {
+  few_names = h.few_names;
+  few_lines = h.few_lines;
+  assemblies = h.assemblies;
+  parts = h.parts;
+  some = h.some;
+  most = h.most;
+  orders = h.orders;
+}
 IsStructure-along Up s h = record {
   few_names = h.few_names;
   few_lines = h.few_lines;
@@ -63,11 +71,3 @@ IsStructure-along Up s h = record {
   most = h.most;
   orders = h.orders;
 }
-
-pub names-along : (way : Way) (s : Structure) → (along way s).names ≡ s.names
-names-along Down s = refl
-names-along Up s = refl
-
-pub lines-along : (way : Way) (s : Structure) → (along way s).lines ≡ s.lines
-lines-along Down s = refl
-lines-along Up s = refl

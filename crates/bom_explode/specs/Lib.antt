@@ -1,5 +1,6 @@
 pub mod Structure
 pub mod Below
+pub mod Chains
 pub mod Sum
 pub mod Needs
 pub mod Laws

@@ -30,10 +30,18 @@ structure_of bill = record {
   quantity = λ l. (line_at bill l).quantity;
 }
 
+-- the name where a line starts, and the name where it finishes
+abbrev pub start_of : Way → Structure → ℕ → ℕ
+start_of Down s = s.assembly
+start_of Up s = s.part
+
+abbrev pub finish_of : Way → Structure → ℕ → ℕ
+finish_of Down s = s.part
+finish_of Up s = s.assembly
+
 -- the same lines, read from assemblies down to parts, or from parts up to assemblies
 abbrev pub along : Way → Structure → Structure
-along Down s = s
-along Up s = record s { assembly = s.part; part = s.assembly }
+along way s = record s { assembly = start_of way s; part = finish_of way s }
 
 -- the ends of each line are names, and all quantities are in their ranges
 pub record IsStructure (s : Structure) : Type 0 where

@@ -1,5 +1,6 @@
 //! The explosion of a bill of materials.
 #![tactic(auto)]
 
+mod chains;
 pub mod laws;
 mod structure;

@@ -1,6 +1,6 @@
 ghost use Rattle.std.specs.Prelude.{◌≡◌, ◌<◌, ◌≤◌};
 ghost use Rattle.tqd_base.specs.declared.limits.TheConstants.{QTY_MAX};
-ghost use Rattle.bom_explode.specs.Structure.{structure_of, along, IsStructure};
+ghost use Rattle.bom_explode.specs.Structure.{structure_of, start_of, finish_of, IsStructure};
 
 use bom_reader::Bill;
 
@@ -52,16 +52,20 @@ fn assembly_and_part(bill: &Bill, l: u32) -> (u32, u32)
     requires { l < (structure_of bill.now).lines }
     ensures assembly { result.0 ≡ (structure_of bill.now).assembly l }
     ensures part { result.1 ≡ (structure_of bill.now).part l }
+    ensures kept { IsStructure (structure_of bill.now) }
 {
+    let _ = lines(bill);
     let (assembly, part, _) = bill.line(l as usize);
     (assembly, part)
 }
 
-/// The name that a line leads from and the name that it leads to.
+/// The name where a line starts, and the name where it finishes.
 pub(crate) fn ends(bill: &Bill, way: Way, l: u32) -> (u32, u32)
     requires { l < (structure_of bill.now).lines }
-    ensures from { result.0 ≡ (along way (structure_of bill.now)).assembly l }
-    ensures to { result.1 ≡ (along way (structure_of bill.now)).part l }
+    ensures start { result.0 ≡ start_of way (structure_of bill.now) l }
+    ensures finish { result.1 ≡ finish_of way (structure_of bill.now) l }
+    ensures start_inside { result.0 < (structure_of bill.now).names }
+    ensures finish_inside { result.1 < (structure_of bill.now).names }
 {
     let (assembly, part) = assembly_and_part(bill, l);
     match way {
