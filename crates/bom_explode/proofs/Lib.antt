@@ -2,3 +2,5 @@ pub mod Sums
 pub mod Climbing
 pub mod Structures
 pub mod Chaining
+pub mod Chainwise
+pub mod Searching

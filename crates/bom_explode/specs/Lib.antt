@@ -3,4 +3,5 @@ pub mod Below
 pub mod Chains
 pub mod Sum
 pub mod Needs
+pub mod Search
 pub mod Laws

@@ -3,4 +3,5 @@
 
 mod chains;
 pub mod laws;
+mod search;
 mod structure;

@@ -66,6 +66,7 @@ pub(crate) fn ends(bill: &Bill, way: Way, l: u32) -> (u32, u32)
     ensures finish { result.1 ≡ finish_of way (structure_of bill.now) l }
     ensures start_inside { result.0 < (structure_of bill.now).names }
     ensures finish_inside { result.1 < (structure_of bill.now).names }
+    ensures kept { IsStructure (structure_of bill.now) }
 {
     let (assembly, part) = assembly_and_part(bill, l);
     match way {
