@@ -4,3 +4,4 @@ pub mod Structures
 pub mod Chaining
 pub mod Chainwise
 pub mod Searching
+pub mod Ordering

@@ -4,4 +4,5 @@ pub mod Chains
 pub mod Sum
 pub mod Needs
 pub mod Search
+pub mod Order
 pub mod Laws

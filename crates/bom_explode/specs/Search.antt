@@ -80,6 +80,10 @@ pub record IsGrown (s : Structure) (before : List ℕ) (root m : ℕ) (mark path
   pub root_marked : IsMarked mark root
   pub on_path : (k : ℕ) → k < length path → IsFound s before root (slice_index path k)
 
+-- the root was found before and all marks stay, or it was searched from
+abbrev pub IsVisited : Structure → List ℕ → ℕ → ℕ → List ℕ → Type 0
+IsVisited s before root m mark = (IsMarked before root × (mark ≡ before)) ⊎ ((UNFOUND ≤ slice_index before root) × IsGrown s before root m mark [])
+
 -- a step keeps what is found from a root on
 abbrev pub KeepsGrown : Structure → ℕ → Search → Search → Type 0
 KeepsGrown s m old new = (before : List ℕ) (root : ℕ) → IsGrown s before root m old.mark.items old.path.items → IsGrown s before root m new.mark.items new.path.items

@@ -3,5 +3,6 @@
 
 mod chains;
 pub mod laws;
+mod order;
 mod search;
 mod structure;

@@ -4,7 +4,7 @@
 ghost use Rattle.std.specs.Prelude.{◌≡◌, ◌<◌, ◌≤◌, [], ◌∷◌, ◌++◌, length, slice_index, slice_set, IfOk, OnOk, MatchOption};
 ghost use Rattle.bom_explode.specs.Structure.{structure_of, along};
 ghost use Rattle.bom_explode.specs.Chains.{AreChains};
-ghost use Rattle.bom_explode.specs.Search.{Searches, IsTop, IsIdle, IsGrown, KeepsGrown, steps_left};
+ghost use Rattle.bom_explode.specs.Search.{Searches, IsTop, IsIdle, IsGrown, IsVisited, KeepsGrown, steps_left};
 
 use crate::chains::Chains;
 use crate::structure::{Way, ends, names};
@@ -114,7 +114,7 @@ impl Search {
     }
 
     /// Finds, from `root` on, each name that lines lead to and that was not found before, and gives it this mark.
-    pub(crate) fn run(&mut self, bill: &Bill, way: Way, chains: &Chains, root: u32, mark: usize) -> Result<(), Memory>
+    fn run(&mut self, bill: &Bill, way: Way, chains: &Chains, root: u32, mark: usize) -> Result<(), Memory>
         requires chains { AreChains (along way (structure_of bill.now)) chains.now.first.items chains.now.next.items }
         requires idle { IsIdle (along way (structure_of bill.now)) self.old }
         requires root { root < (structure_of bill.now).names }
@@ -128,5 +128,21 @@ impl Search {
             self.step(bill, way, chains, n, mark)?;
         }
         Ok(())
+    }
+
+    /// Searches from `root`, unless it was found before.
+    pub(crate) fn visit(&mut self, bill: &Bill, way: Way, chains: &Chains, root: u32, mark: usize) -> Result<(), Memory>
+        requires chains { AreChains (along way (structure_of bill.now)) chains.now.first.items chains.now.next.items }
+        requires idle { IsIdle (along way (structure_of bill.now)) self.old }
+        requires root { root < (structure_of bill.now).names }
+        requires mark { mark < UNFOUND }
+        ensures idle { OnOk result (IsIdle (along way (structure_of bill.now)) self.new) }
+        ensures visited { OnOk result (IsVisited (along way (structure_of bill.now)) self.old.mark.items root mark self.new.mark.items) }
+    {
+        if self.mark[root as usize] < UNFOUND {
+            Ok(())
+        } else {
+            self.run(bill, way, chains, root, mark)
+        }
     }
 }
