@@ -8,6 +8,7 @@ use Rattle.bom_explode.specs.Structure.{Structure, IsStructure}
 use Rattle.bom_explode.specs.Below.{Leads, IsBelow, by_line, by_chain, HasNoCircle}
 use Rattle.bom_explode.specs.Needs.{share, demand, Solves}
 use Rattle.bom_explode.specs.Sum.{sum_to}
+use Rattle.bom_explode.specs.Solution.{needs_within, need_of}
 use Rattle.bom_explode.specs.Laws.{NeedsExist, NeedsAgree}
 use Rattle.bom_explode.proofs.Sums.{sum_to-ext}
 
@@ -76,21 +77,14 @@ agree_from s ok x y p q (suc k) n h b = p.each n b
     ∙ demand-same s x y n (λ l d e. agree_from s ok x y p q k (s.assembly l) (λ c. h (up l (record { inside = d; from = refl; to = e }) c)) (ok.assemblies l d))
     ∙ sym (q.each n b)
 
--- the needs as far as chains of fewer than k lines bring them
-abbrev pub needs_within : Structure → ℕ → ℕ → ℕ
-needs_within s zero n = 0
-needs_within s (suc k) n = demand s (needs_within s k) n
-
 steady : (s : Structure) → IsStructure s → (k n : ℕ) → (Climbs s k n → ⊥) → needs_within s k n ≡ needs_within s (suc k) n
 steady s ok zero n h = absurd (h here)
 steady s ok (suc k) n h = demand-same s (needs_within s k) (needs_within s (suc k)) n
     (λ l d e. steady s ok k (s.assembly l) (λ c. h (up l (record { inside = d; from = refl; to = e }) c)))
 
 -- the solution
-abbrev pub need_of : Structure → ℕ → ℕ
-need_of s n = needs_within s s.names n
-
 pub Solves-need_of : (s : Structure) → IsStructure s → HasNoCircle s → Solves s (need_of s)
+unfolding need_of
 Solves-need_of s ok nc = record { each = λ n h. steady s ok s.names n (no_climb s ok nc n h) }
 
 pub needs_exist : NeedsExist

@@ -5,4 +5,5 @@ pub mod Sum
 pub mod Needs
 pub mod Search
 pub mod Order
+pub mod Solution
 pub mod Laws

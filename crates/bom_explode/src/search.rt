@@ -1,8 +1,8 @@
 //! A depth-first search along the lines of a bill, with an explicit path in place of a recursion (Tarjan, Depth-first
 //! search and linear graph algorithms, SIAM Journal on Computing, 1972).
 
-ghost use Rattle.std.specs.Prelude.{◌≡◌, ◌<◌, ◌≤◌, [], ◌∷◌, ◌++◌, length, slice_index, slice_set, IfOk, OnOk, MatchOption};
-ghost use Rattle.bom_explode.specs.Structure.{structure_of, along};
+ghost use Rattle.std.specs.Prelude.{◌≡◌, ℕ, ◌<◌, ◌≤◌, [], ◌∷◌, ◌++◌, length, slice_index, slice_set, IfOk, OnOk, MatchOption};
+ghost use Rattle.bom_explode.specs.Structure.{structure_of, along, IsStructure};
 ghost use Rattle.bom_explode.specs.Chains.{AreChains};
 ghost use Rattle.bom_explode.specs.Search.{Searches, IsTop, IsIdle, IsGrown, IsVisited, KeepsGrown, steps_left};
 
@@ -30,7 +30,9 @@ impl Search {
     /// A search that has found nothing yet.
     pub(crate) fn new(alloc: Global, bill: &Bill, way: Way, chains: &Chains) -> Result<Search, Memory>
         requires { AreChains (along way (structure_of bill.now)) chains.now.first.items chains.now.next.items }
-        ensures { IfOk result (λ search. IsIdle (along way (structure_of bill.now)) search) }
+        ensures idle { IfOk result (λ search. IsIdle (along way (structure_of bill.now)) search) }
+        ensures nothing { IfOk result (λ search. (n : ℕ) → n < (structure_of bill.now).names → UNFOUND ≤ slice_index search.mark.items n) }
+        ensures kept { IsStructure (structure_of bill.now) }
     {
         let count = names(bill) as usize;
         Ok(Search {

@@ -5,8 +5,8 @@ use Rattle.bom_explode.proofs.Structures.{IsStructure-along}
 use Rattle.bom_explode.proofs.Searching.{IsSearch-start}
 use Rattle.bom_explode.proofs.search.Search.new.Goals as goal
 
-pub returns : goal.returns
-returns c =
+pub returns-clause-idle : goal.returns-clause-idle
+returns-clause-idle c =
     let s = along c.args.way (structure_of c.args.bill.now) in
     let marks : c.in_ok-vec.field-0.items ≡ replicate c.names-count.result UNFOUND = search rules in
     record {
