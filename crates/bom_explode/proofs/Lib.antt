@@ -5,3 +5,4 @@ pub mod Chaining
 pub mod Chainwise
 pub mod Searching
 pub mod Ordering
+pub mod Amounting

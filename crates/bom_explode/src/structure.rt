@@ -32,7 +32,9 @@ pub(crate) fn ordered(bill: &Bill, n: u32) -> u64
     requires { n < (structure_of bill.now).names }
     ensures value { result ≡ (structure_of bill.now).ordered n }
     ensures within { result ≤ QTY_MAX }
+    ensures kept { IsStructure (structure_of bill.now) }
 {
+    let _ = lines(bill);
     bill.ordered(n as usize)
 }
 
@@ -41,8 +43,10 @@ pub(crate) fn source(bill: &Bill, l: u32) -> (u32, u64)
     requires { l < (structure_of bill.now).lines }
     ensures assembly { result.0 ≡ (structure_of bill.now).assembly l }
     ensures quantity { result.1 ≡ (structure_of bill.now).quantity l }
+    ensures inside { result.0 < (structure_of bill.now).names }
     ensures within { result.1 ≤ QTY_MAX }
 {
+    let _ = lines(bill);
     let (assembly, _, quantity) = bill.line(l as usize);
     (assembly, quantity)
 }
