@@ -1,6 +1,6 @@
 ghost use Rattle.std.specs.Prelude.{◌≡◌, ℕ, ◌<◌, ◌≤◌, min, length, slice_index, IfOk, MatchOption};
 ghost use Rattle.tqd_base.specs.declared.limits.TheConstants.{QTY_MAX};
-ghost use Rattle.bom_explode.specs.Structure.{structure_of, along};
+ghost use Rattle.bom_explode.specs.Structure.{structure_of, along, IsStructure};
 ghost use Rattle.bom_explode.specs.Below.{HasNoCircle};
 ghost use Rattle.bom_explode.specs.Chains.{AreChains};
 ghost use Rattle.bom_explode.specs.Needs.{demand, IsLeastAbove};
@@ -21,6 +21,7 @@ pub(crate) const TOO_MANY: u64 = QTY_MAX + 1;
 
 /// What a name needs, where the needs of all assemblies that it goes into are known.
 fn amount(bill: &Bill, up: &Chains, amounts: &[u64], n: u32) -> u64
+    requires kept { IsStructure (structure_of bill.now) }
     requires chains { AreChains (along Up (structure_of bill.now)) up.now.first.items up.now.next.items }
     requires inside { n < (structure_of bill.now).names }
     requires names { length amounts.now ≡ (structure_of bill.now).names }

@@ -65,6 +65,7 @@ impl Search {
 
     /// Leaves the last name on the path, all of whose lines were followed.
     fn leave(&mut self, bill: &Bill, way: Way, n: u32, mark: usize) -> Result<(), Memory>
+        requires kept { IsStructure (structure_of bill.now) }
         requires searches { Searches (along way (structure_of bill.now)) self.old }
         requires top { IsTop self.old.path.items n }
         requires done { slice_index self.old.cursor.items n ≡ 0 }
@@ -72,7 +73,6 @@ impl Search {
         ensures grown { OnOk result (KeepsGrown (along way (structure_of bill.now)) mark self.old self.new) }
         ensures nearer { OnOk result (steps_left self.new < steps_left self.old) }
     {
-        let _ = names(bill);
         self.path.pop();
         self.left.push(n)?;
         Ok(())
@@ -80,6 +80,7 @@ impl Search {
 
     /// Follows a line of the last name on the path, and enters the name that it leads to where that was not found before.
     fn follow(&mut self, bill: &Bill, way: Way, chains: &Chains, n: u32, mark: usize) -> Result<(), Memory>
+        requires kept { IsStructure (structure_of bill.now) }
         requires chains { AreChains (along way (structure_of bill.now)) chains.now.first.items chains.now.next.items }
         requires searches { Searches (along way (structure_of bill.now)) self.old }
         requires mark { mark < UNFOUND }
@@ -100,6 +101,7 @@ impl Search {
     }
 
     fn step(&mut self, bill: &Bill, way: Way, chains: &Chains, n: u32, mark: usize) -> Result<(), Memory>
+        requires kept { IsStructure (structure_of bill.now) }
         requires chains { AreChains (along way (structure_of bill.now)) chains.now.first.items chains.now.next.items }
         requires searches { Searches (along way (structure_of bill.now)) self.old }
         requires mark { mark < UNFOUND }
@@ -117,6 +119,7 @@ impl Search {
 
     /// Finds, from `root` on, each name that lines lead to and that was not found before, and gives it this mark.
     fn run(&mut self, bill: &Bill, way: Way, chains: &Chains, root: u32, mark: usize) -> Result<(), Memory>
+        requires kept { IsStructure (structure_of bill.now) }
         requires chains { AreChains (along way (structure_of bill.now)) chains.now.first.items chains.now.next.items }
         requires idle { IsIdle (along way (structure_of bill.now)) self.old }
         requires root { root < (structure_of bill.now).names }
@@ -134,6 +137,7 @@ impl Search {
 
     /// Searches from `root`, unless it was found before.
     pub(crate) fn visit(&mut self, bill: &Bill, way: Way, chains: &Chains, root: u32, mark: usize) -> Result<(), Memory>
+        requires kept { IsStructure (structure_of bill.now) }
         requires chains { AreChains (along way (structure_of bill.now)) chains.now.first.items chains.now.next.items }
         requires idle { IsIdle (along way (structure_of bill.now)) self.old }
         requires root { root < (structure_of bill.now).names }

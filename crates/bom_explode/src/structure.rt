@@ -32,9 +32,7 @@ pub(crate) fn ordered(bill: &Bill, n: u32) -> u64
     requires { n < (structure_of bill.now).names }
     ensures value { result ≡ (structure_of bill.now).ordered n }
     ensures within { result ≤ QTY_MAX }
-    ensures kept { IsStructure (structure_of bill.now) }
 {
-    let _ = lines(bill);
     bill.ordered(n as usize)
 }
 
@@ -46,7 +44,6 @@ pub(crate) fn source(bill: &Bill, l: u32) -> (u32, u64)
     ensures inside { result.0 < (structure_of bill.now).names }
     ensures within { result.1 ≤ QTY_MAX }
 {
-    let _ = lines(bill);
     let (assembly, _, quantity) = bill.line(l as usize);
     (assembly, quantity)
 }
@@ -56,9 +53,9 @@ fn assembly_and_part(bill: &Bill, l: u32) -> (u32, u32)
     requires { l < (structure_of bill.now).lines }
     ensures assembly { result.0 ≡ (structure_of bill.now).assembly l }
     ensures part { result.1 ≡ (structure_of bill.now).part l }
-    ensures kept { IsStructure (structure_of bill.now) }
+    ensures assembly_inside { result.0 < (structure_of bill.now).names }
+    ensures part_inside { result.1 < (structure_of bill.now).names }
 {
-    let _ = lines(bill);
     let (assembly, part, _) = bill.line(l as usize);
     (assembly, part)
 }
@@ -70,7 +67,6 @@ pub(crate) fn ends(bill: &Bill, way: Way, l: u32) -> (u32, u32)
     ensures finish { result.1 ≡ finish_of way (structure_of bill.now) l }
     ensures start_inside { result.0 < (structure_of bill.now).names }
     ensures finish_inside { result.1 < (structure_of bill.now).names }
-    ensures kept { IsStructure (structure_of bill.now) }
 {
     let (assembly, part) = assembly_and_part(bill, l);
     match way {

@@ -1,4 +1,5 @@
-use Rattle.bom_explode.proofs.Structures.{lines-structure_of, assembly-structure_of, quantity-structure_of}
+use Rattle.std.proofs.Common.{arith}
+use Rattle.bom_explode.proofs.Structures.{names-structure_of, lines-structure_of, assembly-structure_of, quantity-structure_of}
 use Rattle.bom_explode.proofs.structure.source.Goals as goal
 
 pub line-assembly-requires : goal.line-assembly-requires
@@ -9,3 +10,6 @@ returns-clause-assembly c = assembly-structure_of c.args.bill.now c.args.l _ c.l
 
 pub returns-clause-quantity : goal.returns-clause-quantity
 returns-clause-quantity c = quantity-structure_of c.args.bill.now c.args.l _ c.line-assembly.ensures.value
+
+pub returns-clause-inside : goal.returns-clause-inside
+returns-clause-inside c = rw (names-structure_of c.args.bill.now) c.line-assembly.ensures.kept.assembly

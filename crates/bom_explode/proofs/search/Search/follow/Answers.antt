@@ -36,7 +36,7 @@ returns-then-index-lt-UNFOUND-clause-searches c =
     let s = along c.args.way (structure_of c.args.bill.now) in
     IsSearch-follow s c.args.chains.now.first.items c.args.chains.now.next.items c.args.self.now.cursor.items c.args.self.now.mark.items
     c.args.self.now.path.items c.args.self.now.left.items c.args.n c.index.result.now c.index-2.result.now
-    (IsStructure-along c.args.way (structure_of c.args.bill.now) c.ends-finish.ensures.kept) c.requires.chains c.requires.searches
+    (IsStructure-along c.args.way (structure_of c.args.bill.now) c.requires.kept) c.requires.chains c.requires.searches
     r.inside r.cursor (omega (arith, r.cursor)) r.next (rw (← c.ends-finish.ensures.finish, ← r.mark) c.if-index-lt-UNFOUND.true)
 
 pub returns-then-index-lt-UNFOUND-clause-nearer : goal.returns-then-index-lt-UNFOUND-clause-nearer
@@ -54,7 +54,7 @@ returns-else-index-lt-UNFOUND-clause-searches c =
     on_ok_weaker c.enter.result (λ (p : c.enter.new.self.path.items ≡ c.args.self.now.path.items ++ c.ends-finish.result.1 ∷ []). rw (c.enter.ensures.cursor, c.enter.ensures.mark, p, c.enter.ensures.left)
     (IsSearch-found s c.args.chains.now.first.items c.args.chains.now.next.items c.args.self.now.cursor.items c.args.self.now.mark.items
     c.args.self.now.path.items c.args.self.now.left.items c.args.n c.index.result.now c.index-2.result.now c.ends-finish.result.1 c.args.mark
-    (IsStructure-along c.args.way (structure_of c.args.bill.now) c.ends-finish.ensures.kept) c.requires.chains c.requires.searches
+    (IsStructure-along c.args.way (structure_of c.args.bill.now) c.requires.kept) c.requires.chains c.requires.searches
     c.requires.top r.cursor (omega (arith, r.cursor)) r.next c.ends-finish.ensures.finish (rw (← r.mark) c.if-index-lt-UNFOUND.false) c.requires.mark))
     c.enter.ensures.path
 
@@ -65,7 +65,7 @@ returns-else-index-lt-UNFOUND-clause-grown c =
     on_ok_weaker c.enter.result (λ (p : c.enter.new.self.path.items ≡ c.args.self.now.path.items ++ c.ends-finish.result.1 ∷ []) before root g. rw (c.enter.ensures.mark, p)
     (IsGrown-found s c.args.chains.now.first.items c.args.chains.now.next.items c.args.self.now.cursor.items c.args.self.now.mark.items
     c.args.self.now.path.items c.args.self.now.left.items c.args.n c.index.result.now c.index-2.result.now c.ends-finish.result.1 c.args.mark
-    (IsStructure-along c.args.way (structure_of c.args.bill.now) c.ends-finish.ensures.kept) c.requires.chains c.requires.searches
+    (IsStructure-along c.args.way (structure_of c.args.bill.now) c.requires.kept) c.requires.chains c.requires.searches
     c.requires.top r.cursor (omega (arith, r.cursor)) r.next c.ends-finish.ensures.finish (rw (← r.mark) c.if-index-lt-UNFOUND.false) c.requires.mark before root g))
     c.enter.ensures.path
 
