@@ -1,15 +1,14 @@
 -- Sums of what lines ask of a name, cut off where they pass what can be counted.
-use Rattle.std.proofs.Common.{◌≡◌, ℕ, zero, suc, ◌+◌, ◌-◌, ◌*◌, ◌<◌, ◌≤◌, ◌≢◌, ◌==◌, if◌then◌else◌, min, List, length, get_or, set, refl, sym, ap, ◌∙◌, ⊎_elim, arith}
+use Rattle.std.proofs.Common.{◌≡◌, ℕ, zero, suc, ◌+◌, ◌-◌, ◌*◌, ◌<◌, ◌≤◌, ◌≢◌, min, List, length, get_or, set, refl, sym, ap, ◌∙◌, ⊎_elim, arith}
 use Rattle.std.proofs.lemmas.Bool.{cases_lt, cases_eq, eq-eqb, ne_eqb}
 use Rattle.std.proofs.lemmas.List.{length-set}
-use Rattle.tqd_base.specs.declared.limits.TheConstants.{QTY_MAX}
 use Rattle.bom_explode.specs.declared.amounts.TheConstants.{TOO_MANY}
 use Rattle.bom_explode.specs.declared.structure.Way.TheVariants.{Up}
 use Rattle.bom_explode.specs.Structure.{Structure, IsStructure, along}
 use Rattle.bom_explode.specs.Below.{HasNoCircle}
 use Rattle.bom_explode.specs.Chains.{AreChains}
 use Rattle.bom_explode.specs.Sum.{sum_to}
-use Rattle.bom_explode.specs.Needs.{share, demand, Solves}
+use Rattle.bom_explode.specs.Needs.{share, demand}
 use Rattle.bom_explode.specs.Order.{IsOrder}
 use Rattle.bom_explode.specs.Solution.{need_of, AreCapped, IsTotal}
 use Rattle.bom_explode.proofs.Sums.{sum_to-skip}

@@ -1,13 +1,12 @@
 -- On a bill without a circle no chain of lines is longer than there are names. So the equation of needs has one solution.
-use Rattle.std.proofs.Common.{◌≡◌, ℕ, zero, suc, ◌+◌, ◌*◌, ◌<◌, ◌≤◌, ◌==◌, if◌then◌else◌, Bool, true, false, ◌||◌, eqb, List, [], ◌∷◌, length, refl, sym, ap, ◌∙◌, subst, ⊎_elim, arith}
+use Rattle.std.proofs.Common.{◌≡◌, ℕ, zero, suc, ◌+◌, ◌*◌, ◌<◌, ◌≤◌, true, false, eqb, List, [], ◌∷◌, length, refl, sym, ap, ◌∙◌, subst, ⊎_elim, arith}
 use Rattle.std.specs.List.{IsDistinct, AllByRecursion, list_any}
-use Rattle.std.proofs.lemmas.Bool.{cases_eq, false≢true, or_cases, or_parts, eqb-true, eqb-false, eq-eqb, ne_eqb, false_from_ne_true}
+use Rattle.std.proofs.lemmas.Bool.{cases_eq, false≢true, or_cases, or_parts, eqb-true, eq-eqb, ne_eqb, false_from_ne_true}
 use Rattle.std.proofs.lemmas.Map.Keys.{IsDistinct-cons, IsDistinct-from_apart}
 use Rattle.std.proofs.lemmas.Map.Steps.{length-le_from_distinct_below}
 use Rattle.bom_explode.specs.Structure.{Structure, IsStructure}
 use Rattle.bom_explode.specs.Below.{Leads, IsBelow, by_line, by_chain, HasNoCircle}
 use Rattle.bom_explode.specs.Needs.{share, demand, Solves}
-use Rattle.bom_explode.specs.Sum.{sum_to}
 use Rattle.bom_explode.specs.Solution.{needs_within, need_of}
 use Rattle.bom_explode.specs.Laws.{NeedsExist, NeedsAgree}
 use Rattle.bom_explode.proofs.Sums.{sum_to-ext}

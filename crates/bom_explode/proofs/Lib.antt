@@ -6,3 +6,4 @@ pub mod Chainwise
 pub mod Searching
 pub mod Ordering
 pub mod Amounting
+pub mod Collecting

@@ -1,11 +1,11 @@
 -- What finished searches tell: the order of leaving, and the components.
-use Rattle.std.proofs.Common.{◌≡◌, ℕ, ◌+◌, ◌-◌, ◌<◌, ◌≤◌, ◌≢◌, ◌⊎◌, inl, inr, List, [], length, get_or, refl, sym, ap, ◌∙◌, subst, ⊎_elim, arith}
+use Rattle.std.proofs.Common.{◌≡◌, ℕ, ◌+◌, ◌<◌, ◌≤◌, ◌≢◌, ◌⊎◌, inl, inr, List, [], length, get_or, refl, sym, ap, ◌∙◌, subst, ⊎_elim, arith}
 use Rattle.std.proofs.lemmas.Bool.{cases_lt, cases_eq}
 use Rattle.bom_explode.specs.declared.search.Search.{Search}
 use Rattle.bom_explode.specs.declared.search.TheConstants.{UNFOUND}
-use Rattle.bom_explode.specs.declared.structure.Way.TheVariants.{Down, Up}
+use Rattle.bom_explode.specs.declared.structure.Way.TheVariants.{Up}
 use Rattle.bom_explode.specs.Structure.{Structure, IsStructure, along}
-use Rattle.bom_explode.specs.Below.{Leads, IsBelow, by_line, by_chain, HasNoCircle, IsLeastOnCircle}
+use Rattle.bom_explode.specs.Below.{Leads, IsBelow, by_line, by_chain, HasNoCircle}
 use Rattle.bom_explode.specs.Search.{IsOn, IsMarked, IsIdle, IsFound, at_root, by_next, IsGrown, IsVisited}
 use Rattle.bom_explode.specs.Order.{IsOrder, IsAtOrBelow, IsMember, AreGathered, AreComponents}
 use Rattle.bom_explode.proofs.Chainwise.{IsBelow-join}
@@ -69,7 +69,6 @@ join_at_or {s} {p} {m} {a} h k = ⊎_elim
 
 module _ (s : Structure) (order before : List ℕ) (i root : ℕ) (ok : IsStructure s) (ord : IsOrder s order) (inside : i < length order)
     (at : get_or order i 0 ≡ root) (high : (j : ℕ) → i + 1 ≤ j → j < length order → IsMarked before (get_or order j 0)) where
-
   -- one name more, by a line to a name that is a member
   IsMember-more : (l m n : ℕ) → Leads (along Up s) l m n → UNFOUND ≤ get_or before n 0 → IsMember s order m i → IsMember s order n i
   IsMember-more l m n d u h =
@@ -111,7 +110,6 @@ AreGathered-none s order mark i e none ok = record {
 module _ (s : Structure) (order : List ℕ) (i root : ℕ) (before : List ℕ) (search : Search) (ok : IsStructure s) (ord : IsOrder s order)
     (inside : i < length order) (at : get_or order i 0 ≡ root) (h : AreGathered s order (i + 1) before)
     (idle : IsIdle (along Up s) search) (up_ok : IsStructure (along Up s)) where
-
   -- after a search from a name that was not found before
   AreGathered-grown : IsGrown (along Up s) before root i search.mark.items [] → AreGathered s order i search.mark.items
   AreGathered-grown g =

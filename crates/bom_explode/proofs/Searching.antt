@@ -4,10 +4,10 @@ use Rattle.std.proofs.lemmas.Bool.{cases_lt, cases_eq, eq-eqb, ne_eqb}
 use Rattle.std.proofs.lemmas.Grind.{common_steps}
 use Rattle.std.proofs.lemmas.List.{take_at}
 use Rattle.std.proofs.lemmas.List.Sums.{sum_by-set}
-use Rattle.std.specs.List.{sum, sum_by}
+use Rattle.std.specs.List.{sum}
 use Rattle.bom_explode.specs.declared.search.TheConstants.{UNFOUND}
 use Rattle.bom_explode.specs.Structure.{Structure, IsStructure}
-use Rattle.bom_explode.specs.Below.{Leads, IsBelow, by_line, by_chain}
+use Rattle.bom_explode.specs.Below.{Leads, IsBelow, by_line}
 use Rattle.bom_explode.specs.Chains.{AreChains}
 use Rattle.bom_explode.specs.Search.{IsOn, IsMarked, AreCursors, IsFollowed, ArePlaced, AreOrdered, IsSearch, IsFound, at_root, by_next, IsGrown, IsTop}
 use Rattle.bom_explode.proofs.Chainwise.{IsBelow-join}
@@ -63,7 +63,7 @@ pub IsOn-pushed : (xs : List ℕ) (x : ℕ) → IsOn (xs ++ x ∷ []) x
 IsOn-pushed xs x = (length xs, grind (arith, common_steps), push_new xs x (length xs) refl)
 
 -- what holds at each place of a list, and of one number more
-each_push : (P : ℕ → Type 0) (xs : List ℕ) (x : ℕ) → ((k : ℕ) → k < length xs → P (get_or xs k 0)) → P x
+pub each_push : (P : ℕ → Type 0) (xs : List ℕ) (x : ℕ) → ((k : ℕ) → k < length xs → P (get_or xs k 0)) → P x
     → (k : ℕ) → k < length (xs ++ x ∷ []) → P (get_or (xs ++ x ∷ []) k 0)
 each_push P xs x h p k b = ⊎_elim
     (λ (z : k < length xs). subst P (sym (push_old xs x k z)) (h k z))
@@ -351,7 +351,6 @@ top_reached s mark front left since n l x o d = each_push (λ a. IsBelow s x a) 
 module _ (s : Structure) (first next cursor mark path left : List ℕ) (n c d x m : ℕ) (ok : IsStructure s) (ch : AreChains s first next)
     (h : IsSearch s cursor mark path left) (t : IsTop path n) (ce : c ≡ get_or cursor n 0) (ce0 : 0 < c) (de : d ≡ get_or next (c - 1) 0)
     (xe : x ≡ s.part (c - 1)) (u : UNFOUND ≤ get_or mark x 0) (l : m < UNFOUND) where
-
   line_inside : c - 1 < s.lines
   line_inside = let b = IsTop-inside s cursor mark path left n h t in omega (arith, h.cursors.most n b)
 

@@ -6,4 +6,5 @@ pub mod Needs
 pub mod Search
 pub mod Order
 pub mod Solution
+pub mod Explosion
 pub mod Laws

@@ -37,3 +37,16 @@ pub record IsLeastAbove (s : Structure) (need : ℕ → ℕ) (n : ℕ) : Type 0 
   pub inside : n < s.names
   pub above : QTY_MAX < need n
   pub least : (m : ℕ) → m < s.names → QTY_MAX < need m → n ≤ m
+
+-- goods and the units needed of each
+pub record Needed : Type 0 where
+  pub goods : List ℕ
+  pub units : List ℕ
+
+-- what all needs keep: few goods, in rising order, and a number of units of each from 1 to 100,000,000
+pub record IsNeeded (needs : Needed) : Type 0 where
+  pub few : length needs.goods ≤ NAMES_MAX
+  pub rising : IsStrictlyIncreasing needs.goods
+  pub as_many : length needs.units ≡ length needs.goods
+  pub some : (k : ℕ) → k < length needs.units → 1 ≤ slice_index needs.units k
+  pub most : (k : ℕ) → k < length needs.units → slice_index needs.units k ≤ QTY_MAX

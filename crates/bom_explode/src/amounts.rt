@@ -43,7 +43,12 @@ fn amount(bill: &Bill, up: &Chains, amounts: &[u64], n: u32) -> u64
 
 /// What each name needs, with `TOO_MANY` in place of each greater number. Each name comes after the assemblies that it
 /// goes into, from the end of the order on.
-pub(crate) fn amounts(alloc: Global, bill: &Bill, up: &Chains, order: &[u32]) -> Result<Vec<u64>, Memory>
+pub(crate) fn amounts(
+    alloc: Global,
+    bill: &Bill,
+    up: &Chains,
+    order: &[u32],
+) -> Result<Vec<u64>, Memory>
     requires chains { AreChains (along Up (structure_of bill.now)) up.now.first.items up.now.next.items }
     requires order { IsOrder (structure_of bill.now) order.now }
     requires no_circle { HasNoCircle (structure_of bill.now) }

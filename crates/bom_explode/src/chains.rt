@@ -1,5 +1,5 @@
 ghost use Rattle.std.specs.Prelude.{IfOk};
-ghost use Rattle.bom_explode.specs.Structure.{structure_of, along};
+ghost use Rattle.bom_explode.specs.Structure.{structure_of, along, IsStructure};
 ghost use Rattle.bom_explode.specs.Chains.{AreChains};
 
 use crate::structure::{Way, ends, lines, names};
@@ -17,7 +17,8 @@ pub(crate) struct Chains {
 
 impl Chains {
     pub(crate) fn new(alloc: Global, bill: &Bill, way: Way) -> Result<Chains, Memory>
-        ensures { IfOk result (λ chains. AreChains (along way (structure_of bill.now)) chains.first.items chains.next.items) }
+        ensures kept { IsStructure (structure_of bill.now) }
+        ensures made { IfOk result (λ chains. AreChains (along way (structure_of bill.now)) chains.first.items chains.next.items) }
     {
         let mut first = vec![in alloc; 0u32; names(bill) as usize]?;
         let count = lines(bill);

@@ -4,7 +4,14 @@
 mod amounts;
 mod chains;
 mod circle;
+mod explosion;
+mod fault;
 pub mod laws;
+mod needs;
 mod order;
 mod search;
 mod structure;
+
+pub use explosion::explode;
+pub use fault::ExplodeFault;
+pub use needs::Needs;

@@ -25,7 +25,12 @@ pub(crate) fn leaving_order(alloc: Global, bill: &Bill, down: &Chains) -> Result
 }
 
 /// For each name the number of its component: names on one circle have one number, and other names different ones.
-pub(crate) fn components(alloc: Global, bill: &Bill, up: &Chains, order: &[u32]) -> Result<Vec<usize>, Memory>
+pub(crate) fn components(
+    alloc: Global,
+    bill: &Bill,
+    up: &Chains,
+    order: &[u32],
+) -> Result<Vec<usize>, Memory>
     requires chains { AreChains (along Up (structure_of bill.now)) up.now.first.items up.now.next.items }
     requires order { IsOrder (structure_of bill.now) order.now }
     ensures { IfOk result (λ component. AreComponents (structure_of bill.now) component.items) }

@@ -28,7 +28,12 @@ pub(crate) struct Search {
 
 impl Search {
     /// A search that has found nothing yet.
-    pub(crate) fn new(alloc: Global, bill: &Bill, way: Way, chains: &Chains) -> Result<Search, Memory>
+    pub(crate) fn new(
+        alloc: Global,
+        bill: &Bill,
+        way: Way,
+        chains: &Chains,
+    ) -> Result<Search, Memory>
         requires { AreChains (along way (structure_of bill.now)) chains.now.first.items chains.now.next.items }
         ensures idle { IfOk result (λ search. IsIdle (along way (structure_of bill.now)) search) }
         ensures nothing { IfOk result (λ search. (n : ℕ) → n < (structure_of bill.now).names → UNFOUND ≤ slice_index search.mark.items n) }
@@ -79,7 +84,14 @@ impl Search {
     }
 
     /// Follows a line of the last name on the path, and enters the name that it leads to where that was not found before.
-    fn follow(&mut self, bill: &Bill, way: Way, chains: &Chains, n: u32, mark: usize) -> Result<(), Memory>
+    fn follow(
+        &mut self,
+        bill: &Bill,
+        way: Way,
+        chains: &Chains,
+        n: u32,
+        mark: usize,
+    ) -> Result<(), Memory>
         requires kept { IsStructure (structure_of bill.now) }
         requires chains { AreChains (along way (structure_of bill.now)) chains.now.first.items chains.now.next.items }
         requires searches { Searches (along way (structure_of bill.now)) self.old }
@@ -100,7 +112,14 @@ impl Search {
         }
     }
 
-    fn step(&mut self, bill: &Bill, way: Way, chains: &Chains, n: u32, mark: usize) -> Result<(), Memory>
+    fn step(
+        &mut self,
+        bill: &Bill,
+        way: Way,
+        chains: &Chains,
+        n: u32,
+        mark: usize,
+    ) -> Result<(), Memory>
         requires kept { IsStructure (structure_of bill.now) }
         requires chains { AreChains (along way (structure_of bill.now)) chains.now.first.items chains.now.next.items }
         requires searches { Searches (along way (structure_of bill.now)) self.old }
@@ -118,7 +137,14 @@ impl Search {
     }
 
     /// Finds, from `root` on, each name that lines lead to and that was not found before, and gives it this mark.
-    fn run(&mut self, bill: &Bill, way: Way, chains: &Chains, root: u32, mark: usize) -> Result<(), Memory>
+    fn run(
+        &mut self,
+        bill: &Bill,
+        way: Way,
+        chains: &Chains,
+        root: u32,
+        mark: usize,
+    ) -> Result<(), Memory>
         requires kept { IsStructure (structure_of bill.now) }
         requires chains { AreChains (along way (structure_of bill.now)) chains.now.first.items chains.now.next.items }
         requires idle { IsIdle (along way (structure_of bill.now)) self.old }
@@ -136,7 +162,14 @@ impl Search {
     }
 
     /// Searches from `root`, unless it was found before.
-    pub(crate) fn visit(&mut self, bill: &Bill, way: Way, chains: &Chains, root: u32, mark: usize) -> Result<(), Memory>
+    pub(crate) fn visit(
+        &mut self,
+        bill: &Bill,
+        way: Way,
+        chains: &Chains,
+        root: u32,
+        mark: usize,
+    ) -> Result<(), Memory>
         requires kept { IsStructure (structure_of bill.now) }
         requires chains { AreChains (along way (structure_of bill.now)) chains.now.first.items chains.now.next.items }
         requires idle { IsIdle (along way (structure_of bill.now)) self.old }

@@ -1,6 +1,6 @@
 use Rattle.std.proofs.Common.{◌≡◌, ◌+◌, ◌-◌, get_or, refl, arith}
 use Rattle.bom_explode.specs.Structure.{structure_of}
-use Rattle.bom_explode.proofs.Amounting.{AreAmountsFrom, AreAmountsFrom-more, AreCapped-from, known_amounts}
+use Rattle.bom_explode.proofs.Amounting.{AreAmountsFrom-more, AreCapped-from, known_amounts}
 use Rattle.bom_explode.proofs.amounts.amounts.Goals as goal
 
 pub amount-requires-clause-known : goal.amount-requires-clause-known

@@ -1,6 +1,5 @@
-use Rattle.std.proofs.Common.{ℕ, ◌≤◌, arith}
+use Rattle.std.proofs.Common.{arith}
 use Rattle.bom_explode.specs.Structure.{structure_of}
-use Rattle.bom_explode.specs.Below.{IsBelow}
 use Rattle.bom_explode.proofs.Ordering.{joined_on_circle}
 use Rattle.bom_explode.proofs.circle.least_on_circle.Goals as goal
 

@@ -1,5 +1,5 @@
-use Rattle.std.proofs.Common.{◌≡◌, ◌+◌, ◌-◌, ◌<◌, length, get_or, refl, arith, rules}
-use Rattle.bom_explode.specs.Structure.{structure_of, along}
+use Rattle.std.proofs.Common.{◌≡◌, ◌+◌, ◌-◌, length, get_or, refl, arith}
+use Rattle.bom_explode.specs.Structure.{structure_of}
 use Rattle.bom_explode.specs.Order.{AreGathered}
 use Rattle.bom_explode.specs.declared.structure.Way.TheVariants.{Up}
 use Rattle.bom_explode.proofs.Structures.{IsStructure-along}

@@ -1,4 +1,3 @@
-use Rattle.std.proofs.Common.{arith}
 use Rattle.bom_explode.proofs.Structures.{names-structure_of, lines-structure_of, assembly-structure_of, quantity-structure_of}
 use Rattle.bom_explode.proofs.structure.source.Goals as goal
 

@@ -1,8 +1,7 @@
-use Rattle.std.proofs.Common.{◌≡◌, ◌-◌, ◌<◌, ◌≤◌, ◌++◌, ◌∷◌, [], get_or, set, length, rules, arith, ap, ◌∙◌}
+use Rattle.std.proofs.Common.{◌≡◌, ◌-◌, ◌<◌, ◌++◌, ◌∷◌, [], get_or, arith}
 use Rattle.std.proofs.lemmas.List.{get_or_read, length_push}
 use Rattle.std.proofs.lemmas.Result.{on_ok_weaker}
-use Rattle.bom_explode.specs.declared.search.TheConstants.{UNFOUND}
-use Rattle.bom_explode.specs.Structure.{structure_of, along, IsStructure}
+use Rattle.bom_explode.specs.Structure.{structure_of, along}
 use Rattle.bom_explode.proofs.Structures.{IsStructure-along}
 use Rattle.bom_explode.proofs.Searching.{IsTop-inside, IsSearch-follow, IsSearch-found, IsGrown-found, sum-follow}
 use Rattle.bom_explode.proofs.search.Search.follow.Goals as goal

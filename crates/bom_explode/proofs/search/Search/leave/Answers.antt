@@ -1,5 +1,4 @@
-use Rattle.std.proofs.Common.{◌≡◌, ◌+◌, ◌-◌, ◌++◌, ◌∷◌, [], length, take, rules, arith, ◌∙◌, ap}
-use Rattle.std.proofs.lemmas.Grind.{common_steps}
+use Rattle.std.proofs.Common.{◌≡◌, rules}
 use Rattle.bom_explode.specs.Structure.{structure_of, along}
 use Rattle.bom_explode.proofs.Structures.{IsStructure-along}
 use Rattle.bom_explode.proofs.Searching.{IsSearch-leave, front_of}

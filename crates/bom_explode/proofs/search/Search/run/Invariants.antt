@@ -1,5 +1,4 @@
-use Rattle.std.proofs.Common.{◌≡◌}
-use Rattle.bom_explode.specs.Structure.{structure_of, along, IsStructure}
+use Rattle.bom_explode.specs.Structure.{structure_of, along}
 use Rattle.bom_explode.specs.Search.{Searches, IsGrown, steps_left}
 use Rattle.bom_explode.proofs.search.Search.run.Given as goal
 
