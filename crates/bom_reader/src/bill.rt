@@ -4,11 +4,14 @@ ghost use Rattle.bom_reader.specs.Lines.{bill_in};
 
 use crate::fault::BillFault;
 use crate::line::Line;
+use crate::lines::read_lines;
 use crate::names::NameList;
 use crate::orders::Orders;
+use crate::reading::read_table;
 use std::alloc::Global;
 use std::marker::Model;
 use tqd_base::Stop;
+use tqd_base::limits::LINES_MAX;
 
 /// A bill of materials with the orders: at most 20,000 names, at most 100,000 lines between them,
 /// and for each name the units ordered of it, 0 to 100,000,000.
@@ -93,8 +96,19 @@ pub fn no_bill(orders: Orders) -> Bill
 pub fn read_bill(alloc: Global, orders: Orders, bytes: &[u8]) -> Result<Bill, Stop<BillFault>>
     ensures { Answers result (bill_in orders bytes.now) }
 {
-    let _ = alloc;
-    let _ = orders;
-    let _ = bytes;
-    Err(Stop::Memory)
+    let table = read_table(alloc, bytes, "assembly,part,quantity")?;
+    if table.len() > LINES_MAX {
+        return Err(Stop::Refused(BillFault::TooManyLines));
+    }
+    let Orders {
+        mut names,
+        mut ordered,
+    } = orders;
+    let lines = read_lines(alloc, &table, &mut names)?;
+    ordered.resize(names.len(), 0)?;
+    Ok(Bill {
+        names,
+        ordered,
+        lines,
+    })
 }

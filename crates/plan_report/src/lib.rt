@@ -5,16 +5,18 @@
 //! its name in `specs/`; only the want of memory is left open.
 #![tactic(auto)]
 
-mod fault;
 mod causes;
+mod fault;
 mod file;
 mod names;
 mod plan;
+#[cfg(test)]
+mod tests;
 mod text;
 mod usage;
 
-pub use fault::FileFault;
 pub use causes::{fault_text, unread_text};
+pub use fault::FileFault;
 pub use file::InputFile;
 pub use plan::plan_text;
 pub use usage::usage_text;

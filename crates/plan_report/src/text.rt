@@ -1,8 +1,8 @@
 ghost use Rattle.std.specs.Prelude.{◌≡◌, ◌∷◌, ◌++◌, [], map, decimal, OnOk, IfOk};
 ghost use Rattle.plan_report.specs.Lines.{line};
 
-use std::alloc::Global;
 use money::write_count;
+use std::alloc::Global;
 use tqd_base::Memory;
 
 // What is added to a text. Where memory is wanting, the text is dropped.

@@ -1,0 +1,17 @@
+//! The explosion of a bill of materials.
+#![tactic(auto)]
+
+mod amounts;
+mod chains;
+mod circle;
+mod explosion;
+mod fault;
+pub mod laws;
+mod needs;
+mod order;
+mod search;
+mod structure;
+
+pub use explosion::explode;
+pub use fault::ExplodeFault;
+pub use needs::Needs;
