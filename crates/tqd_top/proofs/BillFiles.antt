@@ -1,32 +1,19 @@
 -- Reading orders and then a bill.
-use Rattle.std.proofs.Common.{ℕ, ◌≡◌, ◌≤◌, Bool, Option, None, Some, refl, sym, ◌∙◌, ap, subst, arith}
-use Rattle.std.specs.Prelude.{Result, Ok, Err, IsSome}
-use Rattle.tqd_base.specs.World.{World, State, Name, Bytes, NeverFall, Rose}
+use Rattle.std.proofs.Common.{Bool, Option, Some, sym, ◌∙◌, subst}
+use Rattle.std.specs.Prelude.{Result, Ok, Err}
+use Rattle.tqd_base.specs.World.{World, State, Name}
 use Rattle.tqd_base.specs.Calls.{Rests}
 use Rattle.bom_reader.specs.Bill.{OrdersData, BillData}
-use Rattle.plan_report.specs.declared.file.InputFile.{InputFile}
 use Rattle.plan_report.specs.declared.file.InputFile.TheVariants.{Orders, Bill}
-use Rattle.plan_report.specs.declared.fault.FileFault.{FileFault}
 use Rattle.tqd_top.specs.declared.halt.Halt.{Halt}
 use Rattle.tqd_top.specs.declared.halt.Halt.TheVariants.{Bad, Unread, Memory}
-use Rattle.tqd_top.specs.Answers.{FailsAt}
 use Rattle.tqd_top.specs.FileRead.{FailsToRead}
 use Rattle.tqd_top.specs.Listing.{Gives, orders_given, bill_given, IsUnreadBill, in_orders, in_bill, at_orders, at_bill}
 use Rattle.tqd_top.specs.Steps.{FileGives, BillFilesGive, IsStill}
-use Rattle.tqd_top.proofs.FoundLemmas.{falls_never}
+use Rattle.tqd_top.proofs.FoundLemmas.{falls_never, fails_later}
 
 pub rests_then : (old mid new : State) → Rests old mid → Rests mid new → Rests old new
 rests_then old mid new a b = record { world = b.world ∙ a.world; kept = b.kept ∙ a.kept; never_fall = falls_never _ mid.faults _ a.never_fall b.never_fall }
-
-rose_later : (a b c : ℕ) → a ≤ b → Rose b c → Rose a c
-unfolding Rose
-rose_later a b c le rose = omega arith
-
-pub fails_later : (old mid new : State) (name : Name) → Rests old mid → FailsAt mid new name → FailsAt old new name
-fails_later old mid new name a f = record {
-  rose = rose_later old.faults.reading mid.faults.reading new.faults.reading a.never_fall.reading f.rose;
-  named = λ told. f.named (subst (λ (w : World). IsSome w.files) (sym a.world) told);
-}
 
 pub still_then : (old mid new : State) (name : Name) → Rests old mid → FailsToRead mid new name → IsStill old new
 still_then old mid new name a f = record { world = f.world ∙ a.world; never_fall = falls_never _ mid.faults _ a.never_fall f.never_fall }

@@ -1,5 +1,5 @@
 pub mod Words
-pub mod Usage
+pub mod Reads
 pub mod Plain
 pub mod PlanText
 pub mod Rows
@@ -13,3 +13,5 @@ pub mod Finds
 pub mod Runs
 pub mod Listing
 pub mod Steps
+pub mod NeedsAnswer
+pub mod Halts

@@ -1,5 +1,5 @@
 -- What the files of orders and of a bill state, or the first fault in the order in which they are read.
-use Rattle.std.specs.Prelude.{ℕ, ◌≡◌, Bool, List, [], length, Option, None, Some, Result, Ok, Err, if◌then◌else◌, nat_lt}
+use Rattle.std.specs.Prelude.{◌≡◌, Bool, [], length, Option, None, Some, Result, Ok, Err, if◌then◌else◌, nat_lt}
 use Rattle.std.specs.Result.{result_map_both}
 use Rattle.tqd_base.specs.declared.limits.TheConstants.{FILE_MAX}
 use Rattle.tqd_base.specs.World.{World, State, Name, Bytes}
@@ -10,7 +10,7 @@ use Rattle.plan_report.specs.declared.file.InputFile.{InputFile}
 use Rattle.plan_report.specs.declared.file.InputFile.TheVariants.{Orders, Bill}
 use Rattle.plan_report.specs.declared.fault.FileFault.{FileFault}
 use Rattle.plan_report.specs.declared.fault.FileFault.TheVariants.{Size, Orders as InOrders, Bill as InBill}
-use Rattle.tqd_top.specs.Answers.{ReadsAs, FailsAt}
+use Rattle.tqd_top.specs.Reads.{ReadsAs, FailsAt}
 
 -- what a file states, whose size is tested first
 abbrev pub sized : {V : Type 0} → InputFile → (Bytes → Result V FileFault) → Bytes → Result V FileFault

@@ -2,13 +2,13 @@
 use Rattle.std.specs.Prelude.{ℕ, ◌≡◌, ◌≤◌, Bool, Option, length, Result, Ok, Err, Vec}
 use Rattle.std.specs.Global.{Global}
 use Rattle.tqd_base.specs.declared.limits.TheConstants.{FILE_MAX}
-use Rattle.tqd_base.specs.World.{State, Name, Bytes, NeverFall}
+use Rattle.tqd_base.specs.World.{State, Name, NeverFall}
 use Rattle.tqd_base.specs.Calls.{Rests}
 use Rattle.plan_report.specs.declared.file.InputFile.{InputFile}
 use Rattle.plan_report.specs.declared.fault.FileFault.{FileFault}
 use Rattle.plan_report.specs.declared.fault.FileFault.TheVariants.{Size}
 use Rattle.bom_reader.specs.Bill.{BillData}
-use Rattle.tqd_top.specs.Answers.{ReadsAs}
+use Rattle.tqd_top.specs.Reads.{ReadsAs}
 use Rattle.tqd_top.specs.FileRead.{IsLong, FailsToRead}
 use Rattle.tqd_top.specs.Listing.{StatesBill, IsFaultOfBill, IsUnreadBill}
 use Rattle.tqd_top.specs.declared.halt.Halt.{Halt}

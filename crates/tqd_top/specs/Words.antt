@@ -22,10 +22,10 @@ pub record FilesNamed : Type 0 where
   pub offers : Name
   pub terms : Option Name
 
--- to solve a job, with a tree or without, by so many workers; to check a tree against a job; to list the needs of
+-- to solve a job, with a tree or without, by so many workers, where their number is given; to check a tree against a job; to list the needs of
 -- orders and a bill; to solve a made job with this seed and so many goods and suppliers
 pub data Asked : Type 0 where
-  ToSolve : FilesNamed → Option Name → ℕ → Asked
+  ToSolve : FilesNamed → Option Name → Option ℕ → Asked
   ToCheck : FilesNamed → Name → Asked
   ToNeed : Name → Option Name → Asked
   ToMake : ℕ → ℕ → ℕ → Asked
@@ -52,8 +52,13 @@ unfoldable pub solve_of : Option FilesNamed → Name → Option ℕ → Option A
 solve_of given tree workers = do
   files ← given
   t ← optional_of tree
-  n ← workers
-  Some (ToSolve files t n)
+  Some (ToSolve files t workers)
+
+-- and N of `--workers`
+unfoldable pub workers_of : Option FilesNamed → Name → Name → Option Asked
+workers_of files tree workers = do
+  n ← qty_of 1 WORKERS_MAX workers
+  solve_of files tree (Some n)
 
 -- ORDERS BILL OFFERS TERMS TREE of `check`
 unfoldable pub check_of : Option FilesNamed → Name → Option Asked
@@ -86,12 +91,12 @@ four_of command seed goods suppliers = if same command (codes "make") then make_
 
 unfoldable pub six_of : Name → Option FilesNamed → Name → Option Asked
 six_of command files tree =
-    if same command (codes "solve") then solve_of files tree (Some 1) else
+    if same command (codes "solve") then solve_of files tree None else
     if same command (codes "check") then check_of files tree else None
 
 unfoldable pub eight_of : Name → Option FilesNamed → Name → Name → Name → Option Asked
 eight_of command files tree option workers =
-    if same command (codes "solve") && same option (codes "--workers") then solve_of files tree (qty_of 1 WORKERS_MAX workers) else None
+    if same command (codes "solve") && same option (codes "--workers") then workers_of files tree workers else None
 
 -- the command that the words give, or None where they are of no form
 unfoldable pub command_of : List Name → Option Asked
@@ -115,17 +120,21 @@ asked (Make seed goods suppliers) = ToMake seed goods suppliers
 abbrev pub two_files : Name → Name → FilesNamed
 two_files orders offers = record { orders = orders; bill = None; offers = offers; terms = None }
 
--- solve ORDERS - OFFERS - -, with any number of workers
+-- solve ORDERS - OFFERS - -
 pub record IsSolve (words : List Name) (orders offers : Name) : Type 0 where
-  pub workers : ℕ
-  pub words_are : command_of words ≡ Some (ToSolve (two_files orders offers) None workers)
+  pub words_are : command_of words ≡ Some (ToSolve (two_files orders offers) None None)
+
+-- needs ORDERS BILL
+pub record IsNeeds (words : List Name) (orders : Name) (bill : Option Name) : Type 0 where
+  pub words_are : command_of words ≡ Some (ToNeed orders bill)
 
 -- the words are of no form
 abbrev pub IsNoForm : List Name → Type 0
 IsNoForm words = command_of words ≡ None
 
--- the words are of a form, but not of that one
+-- the words are of a form, but of neither of those
 pub record IsOtherForm (words : List Name) : Type 0 where
   pub command : Asked
   pub words_are : command_of words ≡ Some command
-  pub other : (orders offers : Name) → IsSolve words orders offers → ⊥
+  pub no_solve : (orders offers : Name) → IsSolve words orders offers → ⊥
+  pub no_needs : (orders : Name) (bill : Option Name) → IsNeeds words orders bill → ⊥

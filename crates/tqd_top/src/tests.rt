@@ -107,8 +107,8 @@ fn answers_other_words(rt: HostRuntime) -> Result<(), Fail> {
         ("solve o - f - tree", 8, "not built\n"),
         ("solve o b f - -", 8, "not built\n"),
         ("solve o - f t - --workers 2", 8, "not built\n"),
+        ("solve o - f - - --workers 1", 8, "not built\n"),
         ("check o - f - tree", 8, "not built\n"),
-        ("needs o -", 8, "not built\n"),
         ("make 1 1 1", 8, "not built\n"),
         ("solve o - f", 2, USAGE),
         ("solve o - f - tree --workers 65", 2, USAGE),
@@ -133,22 +133,6 @@ fn answers_no_words(rt: HostRuntime) -> Result<(), Fail> {
     let ended = run_plain(alloc, &[], &mut desk);
     assert_eq!(rt; ended.status, 2);
     assert_eq!(rt; desk.output(), USAGE.as_bytes());
-    Ok(())
-}
-
-#[test]
-fn reads_the_number_of_workers(rt: HostRuntime) -> Result<(), Fail> {
-    let alloc = rt.alloc();
-    for line in [
-        "solve o - f - - --workers 1",
-        "solve o - f - - --workers 064",
-    ] {
-        let mut desk = desk_with(alloc, "product,quantity\nr,100\n", OFFERS).map_err(|_| "memory")?;
-        let words = words_of(alloc, line)?;
-        let ended = run_plain(alloc, &words, &mut desk);
-        assert_eq!(rt; ended.status, 0, "at {line}");
-        assert_eq!(rt; desk.output(), ON_THE_STEP.as_bytes(), "at {line}");
-    }
     Ok(())
 }
 

@@ -2,7 +2,7 @@ ghost use Rattle.std.specs.Prelude.{◌≡◌, ℕ, map, MatchOption, None, stri
 ghost use Rattle.std.specs.Option.{option_map, option_copied};
 ghost use Rattle.tqd_base.specs.World.{Name};
 ghost use Rattle.tqd_top.specs.Plain.{same};
-ghost use Rattle.tqd_top.specs.Words.{ToSolve, asked, check_of, command_of, eight_of, file_of, files_named, files_of, four_of, make_of, needs_of, optional_of, six_of, solve_of, three_of, two_files};
+ghost use Rattle.tqd_top.specs.Words.{ToSolve, asked, check_of, command_of, eight_of, file_of, files_named, files_of, four_of, make_of, needs_of, optional_of, six_of, solve_of, three_of, two_files, workers_of};
 
 use crate::plain::is_same;
 use money::read_qty;
@@ -23,11 +23,12 @@ pub struct JobFiles<'a> {
 /// What the words of a command line ask for.
 #[derive(Clone, Copy, Debug, PartialEq, Eq)]
 pub enum Command<'a> {
-    /// A least purchase, found by 1 to 64 workers, with the file that the tree goes to, if any.
+    /// A least purchase, with the file that the tree goes to, if any, and with the number of workers, 1 to 64, if it is
+    /// given.
     Solve {
         files: JobFiles<'a>,
         tree: Option<&'a str>,
-        workers: u64,
+        workers: Option<u64>,
     },
     /// Whether the file of a tree certifies an answer to the job.
     Check {
@@ -100,7 +101,7 @@ fn job_files<'a>(
     })
 }
 
-// A `solve` of these files and this TREE, by so many workers.
+// A `solve` of these files and this TREE, by so many workers, if their number is given.
 #[tactic(auto, unfolding(crate::specs::Words::solve_of))]
 fn solve_command<'a>(
     files: Option<JobFiles<'a>>,
@@ -111,12 +112,24 @@ fn solve_command<'a>(
 {
     let files = files?;
     let tree = optional_file(tree)?;
-    let workers = workers?;
     Some(Command::Solve {
         files,
         tree,
         workers,
     })
+}
+
+// A `solve` of these files and this TREE, by N workers.
+#[tactic(auto, unfolding(crate::specs::Words::workers_of))]
+fn workers_command<'a>(
+    files: Option<JobFiles<'a>>,
+    tree: &'a str,
+    workers: &str,
+) -> Option<Command<'a>>
+    ensures { option_map asked result ≡ workers_of (option_map files_named files.entry) tree.now workers.now }
+{
+    let workers = read_qty(workers.as_bytes(), 1, WORKERS_MAX)?;
+    solve_command(files, tree, Some(workers))
 }
 
 // A `check` of these files and this TREE.
@@ -184,7 +197,7 @@ fn of_six<'a>(command: &str, files: Option<JobFiles<'a>>, tree: &'a str) -> Opti
     ensures { option_map asked result ≡ six_of command.now (option_map files_named files.entry) tree.now }
 {
     if is_word(command, "solve") {
-        solve_command(files, tree, Some(1))
+        solve_command(files, tree, None)
     } else if is_word(command, "check") {
         check_command(files, tree)
     } else {
@@ -204,7 +217,7 @@ fn of_eight<'a>(
     ensures { option_map asked result ≡ eight_of command.now (option_map files_named files.entry) tree.now option.now workers.now }
 {
     if is_word(command, "solve") && is_word(option, "--workers") {
-        solve_command(files, tree, read_qty(workers.as_bytes(), 1, WORKERS_MAX))
+        workers_command(files, tree, workers)
     } else {
         None
     }
@@ -233,7 +246,7 @@ pub fn read_words(words: &[String]) -> Option<Command<'_>>
     }
 }
 
-/// The names of the files of a `solve` without a bill and terms.
+/// The names of the files of a `solve` of orders and offers alone.
 #[derive(Clone, Copy, Debug, PartialEq, Eq)]
 pub struct SolveWords<'a> {
     pub orders: &'a str,
@@ -241,16 +254,16 @@ pub struct SolveWords<'a> {
 }
 
 impl<'a> Command<'a> {
-    /// The files of a `solve` without bill, terms and tree, or None where the command is another.
+    /// The files of a `solve` without bill, terms, tree and number of workers, or None where the command is another.
     pub fn plain_solve(&self) -> Option<SolveWords<'a>>
         ensures { MatchOption result
-            ((orders offers : Name) (workers : ℕ) → asked self.now ≡ ToSolve (two_files orders offers) None workers → ⊥)
-            (λ w. (workers : ℕ) × (asked self.now ≡ ToSolve (two_files w.orders.now w.offers.now) None workers)) }
+            ((orders offers : Name) → asked self.now ≡ ToSolve (two_files orders offers) None None → ⊥)
+            (λ w. asked self.now ≡ ToSolve (two_files w.orders.now w.offers.now) None None) }
     {
         let Command::Solve {
             files,
             tree: None,
-            workers: _,
+            workers: None,
         } = self
         else {
             return None;
