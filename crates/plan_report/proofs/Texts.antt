@@ -23,6 +23,11 @@ pub ruleset texts = (texts_to-zero, texts_to-more, append_assoc, append-nil)
 
 pub ruleset appends = (append_assoc, append-nil)
 
+-- a text that grows twice
+pub grows_twice : (old a b t n new : Bytes) (r : Result (Unit {0}) Memory) → t ≡ old ++ a → n ≡ b → OnOk r (new ≡ t ++ n) → OnOk r (new ≡ old ++ (a ++ b))
+grows_twice old a b t n new (Ok done) first same second = second ∙ ap (λ (z : Bytes). t ++ z) same ∙ ap (λ (z : Bytes). z ++ b) first ∙ append_assoc old a b
+grows_twice old a b t n new (Err stop) first same second = tt
+
 -- a text that grows thrice
 pub grows_thrice : (old p f n u a b new : Bytes) (r : Result (Unit {0}) Memory) → a ≡ old ++ (p ++ f) → b ≡ a ++ n → OnOk r (new ≡ b ++ u)
     → OnOk r (new ≡ old ++ (p ++ ((f ++ n) ++ u)))

@@ -5,13 +5,15 @@ use Rattle.csv_rows.specs.declared.fault.RowFault.{RowFault}
 use Rattle.csv_rows.specs.declared.fault.RowFault.TheVariants.{Empty, Header, Width, Text}
 use Rattle.bom_reader.specs.declared.fault.BillFault.{BillFault}
 use Rattle.bom_reader.specs.declared.fault.BillFault.TheVariants.{Rows, TooManyLines, Name, Quantity, TooManyNames, Twice}
+use Rattle.bom_explode.specs.declared.fault.ExplodeFault.{ExplodeFault}
+use Rattle.bom_explode.specs.declared.fault.ExplodeFault.TheVariants.{Circle, NeedRange}
 use Rattle.tqd_instance.specs.declared.parts.JobFault.{JobFault}
 use Rattle.tqd_instance.specs.declared.parts.JobFault.TheVariants.{TooManyGoods, MissingPrice, ShareOrder, WinnerOrder}
 use Rattle.plan_report.specs.Named.{name_at, good_at}
 use Rattle.plan_report.specs.declared.file.InputFile.{InputFile}
 use Rattle.plan_report.specs.declared.file.InputFile.TheVariants.{Orders, Bill, Offers, Terms, Tree}
 use Rattle.plan_report.specs.declared.fault.FileFault.{FileFault}
-use Rattle.plan_report.specs.declared.fault.FileFault.TheVariants.{Size, Orders as InOrders, Bill as InBill, Job as InJob}
+use Rattle.plan_report.specs.declared.fault.FileFault.TheVariants.{Size, Orders as InOrders, Bill as InBill, Explode as InExplosion, Job as InJob}
 
 abbrev pub file_name : InputFile → Bytes
 file_name Orders = codes "orders"
@@ -45,6 +47,10 @@ bill_cause (Quantity at) = in_row at (codes "bad quantity")
 bill_cause (TooManyNames at) = in_row at (codes "more than 20000 names")
 bill_cause (Twice at) = in_row at (codes "given twice")
 
+abbrev pub explode_cause : List Bytes → ExplodeFault → Bytes
+explode_cause names (Circle n) = codes "circle through " ++ name_at names n
+explode_cause names (NeedRange n) = codes "need of " ++ name_at names n ++ codes " above 100000000"
+
 -- a supplier offers a part in some interval, and not in the one that begins at this number
 abbrev pub no_price : Bytes → ℕ → Bytes → Bytes
 no_price part from supplier = codes "no price of " ++ part ++ codes " from " ++ decimal from ++ codes " at " ++ supplier
@@ -61,6 +67,7 @@ abbrev pub fault_file : FileFault → Bytes
 fault_file (Size file) = file_name file
 fault_file (InOrders fault) = codes "orders"
 fault_file (InBill fault) = codes "bill"
+fault_file (InExplosion fault) = codes "bill"
 fault_file (InJob fault) = codes "job"
 
 -- what a fault says of it
@@ -68,12 +75,17 @@ abbrev pub fault_cause : List Bytes → List ℕ → List Bytes → FileFault �
 fault_cause names goods suppliers (Size file) = size_cause file
 fault_cause names goods suppliers (InOrders fault) = bill_cause fault
 fault_cause names goods suppliers (InBill fault) = bill_cause fault
+fault_cause names goods suppliers (InExplosion fault) = explode_cause names fault
 fault_cause names goods suppliers (InJob fault) = job_cause names goods suppliers fault
 
 unfoldable pub fault_text : List Bytes → List ℕ → List Bytes → FileFault → Bytes
 fault_text names goods suppliers fault = codes "bad input: " ++ fault_file fault ++ codes ": " ++ fault_cause names goods suppliers fault ++ 10 ∷ []
 
--- the goods and suppliers in a fault have names
+-- the names, goods and suppliers that a fault tells of are there
+abbrev pub IsExplodeFaultNamed : List Bytes → ExplodeFault → Type 0
+IsExplodeFaultNamed names (Circle n) = n < length names
+IsExplodeFaultNamed names (NeedRange n) = n < length names
+
 abbrev pub IsGoodNamed : List Bytes → List ℕ → ℕ → Type 0
 IsGoodNamed names goods k = (k < length goods) × (slice_index goods k < length names)
 
@@ -87,6 +99,7 @@ abbrev pub IsFaultNamed : List Bytes → List ℕ → List Bytes → FileFault �
 IsFaultNamed names goods suppliers (Size file) = Unit {0}
 IsFaultNamed names goods suppliers (InOrders fault) = Unit {0}
 IsFaultNamed names goods suppliers (InBill fault) = Unit {0}
+IsFaultNamed names goods suppliers (InExplosion fault) = IsExplodeFaultNamed names fault
 IsFaultNamed names goods suppliers (InJob fault) = IsJobFaultNamed names goods suppliers fault
 
 -- a file that could not be read

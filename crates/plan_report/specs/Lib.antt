@@ -1,5 +1,6 @@
 pub mod Lines
 pub mod Named
 pub mod PlanText
+pub mod NeedsText
 pub mod Usage
 pub mod FaultText

@@ -1,10 +1,11 @@
 ghost use Rattle.std.specs.Prelude.{◌≡◌, ◌++◌, IfOk, OnOk};
-ghost use Rattle.plan_report.specs.FaultText.{IsFaultNamed, IsJobFaultNamed, bill_cause, fault_cause, fault_file, fault_text, file_name, in_row, job_cause, no_price, rows_cause, size_cause, unread_text};
+ghost use Rattle.plan_report.specs.FaultText.{IsExplodeFaultNamed, IsFaultNamed, IsJobFaultNamed, bill_cause, explode_cause, fault_cause, fault_file, fault_text, file_name, in_row, job_cause, no_price, rows_cause, size_cause, unread_text};
 
 use crate::fault::FileFault;
 use crate::file::InputFile;
 use crate::names::Names;
 use crate::text::{add_number, add_word};
+use bom_explode::ExplodeFault;
 use bom_reader::{BillFault, NameList};
 use csv_rows::RowFault;
 use std::alloc::Global;
@@ -75,6 +76,28 @@ fn add_bill_cause(alloc: Global, text: &mut Vec<u8>, fault: BillFault) -> Result
     }
 }
 
+#[tactic(auto, using(crate::proofs::Texts::appends))]
+fn add_explode_cause(
+    text: &mut Vec<u8>,
+    fault: ExplodeFault,
+    names: &Names<'_>,
+) -> Result<(), Memory>
+    requires { IsExplodeFaultNamed names.now.names.now fault }
+    ensures { OnOk result (text.new.items ≡ text.old.items ++ explode_cause names.now.names.now fault) }
+{
+    match fault {
+        ExplodeFault::Circle(n) => {
+            add_word(text, "circle through ")?;
+            add_word(text, names.name(n as usize))
+        }
+        ExplodeFault::NeedRange(n) => {
+            add_word(text, "need of ")?;
+            add_word(text, names.name(n as usize))?;
+            add_word(text, " above 100000000")
+        }
+    }
+}
+
 fn add_no_price(
     alloc: Global,
     text: &mut Vec<u8>,
@@ -131,6 +154,7 @@ fn fault_file(fault: &FileFault) -> &'static str
         FileFault::Size(file) => file_name(*file),
         FileFault::Orders(_) => "orders",
         FileFault::Bill(_) => "bill",
+        FileFault::Explode(_) => "bill",
         FileFault::Job(_) => "job",
     }
 }
@@ -148,6 +172,7 @@ fn add_cause(
         FileFault::Size(file) => add_word(text, size_cause(*file)),
         FileFault::Orders(fault) => add_bill_cause(alloc, text, *fault),
         FileFault::Bill(fault) => add_bill_cause(alloc, text, *fault),
+        FileFault::Explode(fault) => add_explode_cause(text, *fault, names),
         FileFault::Job(fault) => add_job_cause(alloc, text, *fault, names),
     }
 }

@@ -1,4 +1,5 @@
 use crate::file::InputFile;
+use bom_explode::ExplodeFault;
 use bom_reader::BillFault;
 use tqd_instance::JobFault;
 
@@ -11,6 +12,8 @@ pub enum FileFault {
     Orders(BillFault),
     /// A fault of the bill.
     Bill(BillFault),
+    /// The bill has a circle, or a need that is too great.
+    Explode(ExplodeFault),
     /// A fault of the job that the files state.
     Job(JobFault),
 }

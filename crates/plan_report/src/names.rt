@@ -12,12 +12,19 @@ pub(crate) struct Names<'a> {
 }
 
 impl Names<'_> {
+    pub(crate) fn name(&self, n: usize) -> &str
+        requires { n < length self.now.names.now }
+        ensures { result.now ≡ name_at self.now.names.now n }
+    {
+        self.names.name(n)
+    }
+
     pub(crate) fn good(&self, k: usize) -> &str
         requires good { k < length self.now.goods.now }
         requires named { slice_index self.now.goods.now k < length self.now.names.now }
         ensures { result.now ≡ good_at self.now.names.now self.now.goods.now k }
     {
-        self.names.name(self.goods[k] as usize)
+        self.name(self.goods[k] as usize)
     }
 
     pub(crate) fn supplier(&self, i: usize) -> &str

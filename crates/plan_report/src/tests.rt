@@ -1,8 +1,9 @@
 ghost use Rattle.std.specs.Prelude.{IfOk};
 ghost use Rattle.tqd_instance.specs.Plan.{IsSizedFor};
 
-use crate::{FileFault, InputFile, fault_text, plan_text, unread_text, usage_text};
-use bom_reader::{BillFault, NameList};
+use crate::{FileFault, InputFile, fault_text, needs_text, plan_text, unread_text, usage_text};
+use bom_explode::{ExplodeFault, explode};
+use bom_reader::{BillFault, NameList, no_bill, read_bill, read_orders};
 use csv_rows::RowFault;
 use std::alloc::Global;
 use std::process::Abort;
@@ -322,6 +323,60 @@ fn faults_of_orders_and_bills(rt: HostRuntime) -> Result<(), Fail> {
         let printed = fault_text(alloc, &FileFault::Bill(fault), &none, &[], &none)?;
         assert_eq!(rt; printed.as_slice(), bill.as_bytes());
     }
+    Ok(())
+}
+
+#[test]
+fn faults_of_the_explosion(rt: HostRuntime) -> Result<(), Fail> {
+    let alloc = rt.alloc();
+    let none = NameList::empty(alloc);
+    let names = list_of(alloc, &["p", "q", "r"])?;
+    assert!(rt; names.len() == 3);
+    for (fault, text) in [
+        (
+            ExplodeFault::Circle(0),
+            "bad input: bill: circle through p\n",
+        ),
+        (
+            ExplodeFault::NeedRange(2),
+            "bad input: bill: need of r above 100000000\n",
+        ),
+    ] {
+        let printed = fault_text(alloc, &FileFault::Explode(fault), &names, &[], &none)?;
+        assert_eq!(rt; printed.as_slice(), text.as_bytes());
+    }
+    Ok(())
+}
+
+#[test]
+fn needs_of_pumps_and_valves(rt: HostRuntime) -> Result<(), Fail> {
+    let alloc = rt.alloc();
+    let orders = read_orders(alloc, b"product,quantity\npump,40\nvalve,25\n")?;
+    let lines = b"assembly,part,quantity
+pump,seal,2
+pump,bolt,8
+pump,housing,1
+valve,seal,1
+valve,bolt,4
+";
+    let bill = read_bill(alloc, orders, lines)?;
+    let needs = explode(alloc, &bill)?;
+    let count = bill.names().len();
+    assert!(rt; needs.goods().iter().all(|n| (*n as usize) < count));
+    let printed = needs_text(alloc, &bill, &needs)?;
+    let text = b"need\tseal\t105\nneed\tbolt\t420\nneed\thousing\t40\n";
+    assert_eq!(rt; printed.as_slice(), text.as_slice());
+    Ok(())
+}
+
+#[test]
+fn no_needs(rt: HostRuntime) -> Result<(), Fail> {
+    let alloc = rt.alloc();
+    let bill = no_bill(read_orders(alloc, b"product,quantity\nr,0\n")?);
+    let needs = explode(alloc, &bill)?;
+    let count = bill.names().len();
+    assert!(rt; needs.goods().iter().all(|n| (*n as usize) < count));
+    assert!(rt; needs_text(alloc, &bill, &needs)?.is_empty());
     Ok(())
 }
 

@@ -3,7 +3,7 @@ use Rattle.std.proofs.Common.{ℕ, ◌≡◌, ◌≤◌, Bool, List, [], Option,
 use Rattle.std.specs.Prelude.{IsSome, IfSome, unwrap_or}
 use Rattle.std.specs.Option.{option_map}
 use Rattle.tqd_base.specs.World.{World, State, Name, Bytes, NeverFall, Rose, bytes_at, print}
-use Rattle.tqd_top.specs.declared.answer.InputFile.TheVariants.{Orders, Bill, Offers as OffersFile, Terms, Tree as TreeFile}
+use Rattle.plan_report.specs.declared.file.InputFile.TheVariants.{Orders, Bill, Offers as OffersFile, Terms, Tree as TreeFile}
 use Rattle.tqd_top.specs.declared.answer.Target.TheVariants.{Tree, Out}
 use Rattle.tqd_top.specs.declared.answer.Answer.{Answer}
 use Rattle.tqd_top.specs.declared.answer.Answer.TheVariants.{Solved, Infeasible, Words, NotBuilt, ReadFault, WriteFault, Memory}

@@ -3,13 +3,13 @@ use Rattle.std.specs.Prelude.{ℕ, ◌≡◌, ◌⊎◌, ◌≤◌, ◌++◌, Bo
 use Rattle.tqd_base.specs.World.{World, State, Name, Bytes, Rose, IsReadable, bytes_at, print}
 use Rattle.tqd_instance.specs.declared.job.Job.{Job}
 use Rattle.tqd_instance.specs.Built.{IsJobOf}
-use Rattle.tqd_top.specs.declared.answer.InputFile.{InputFile}
-use Rattle.tqd_top.specs.declared.answer.InputFile.TheVariants.{Orders, Bill, Offers as OffersFile, Terms, Tree as TreeFile}
+use Rattle.plan_report.specs.declared.file.InputFile.{InputFile}
+use Rattle.plan_report.specs.declared.file.InputFile.TheVariants.{Orders, Bill, Offers as OffersFile, Terms, Tree as TreeFile}
 use Rattle.tqd_top.specs.declared.answer.Target.TheVariants.{Tree, Out}
 use Rattle.tqd_top.specs.declared.answer.Answer.{Answer}
 use Rattle.tqd_top.specs.declared.answer.Answer.TheVariants.{Solved, Infeasible, Words, NotBuilt, ReadFault, WriteFault, Memory}
 use Rattle.tqd_top.specs.Words.{IsSolve, IsNoForm, IsOtherForm}
-use Rattle.tqd_top.specs.Usage.{usage_text}
+use Rattle.plan_report.specs.Usage.{usage_text}
 use Rattle.tqd_top.specs.Plain.{Order, Offers, plain_order, plain_offers, parts_of}
 use Rattle.tqd_top.specs.JobDecides.{JobDecides}
 

@@ -1,7 +1,7 @@
 -- What is found from the bytes of the files, step by step.
 use Rattle.std.specs.Prelude.{◌≡◌, ◌⊎◌, ◌++◌, [], ◌∷◌, Bool, Some, None, IsSome, codes}
 use Rattle.tqd_base.specs.World.{World, State, Name, Bytes, NeverFall}
-use Rattle.tqd_top.specs.declared.answer.InputFile.TheVariants.{Orders, Bill, Offers as OffersFile, Terms, Tree as TreeFile}
+use Rattle.plan_report.specs.declared.file.InputFile.TheVariants.{Orders, Bill, Offers as OffersFile, Terms, Tree as TreeFile}
 use Rattle.tqd_top.specs.declared.answer.Answer.{Answer}
 use Rattle.tqd_top.specs.declared.answer.Answer.TheVariants.{Solved, Infeasible, Words, NotBuilt, ReadFault, WriteFault, Memory}
 use Rattle.tqd_top.specs.Plain.{Order, Offers, plain_offers}

@@ -1,7 +1,5 @@
 pub mod Words
-pub mod Usage
 pub mod Plain
-pub mod PlanText
 pub mod Rows
 pub mod OneText
 pub mod OneJob

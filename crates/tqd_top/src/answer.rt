@@ -1,14 +1,5 @@
+use plan_report::InputFile;
 use tqd_instance::Plan;
-
-/// The files that a command reads.
-#[derive(Clone, Copy, Debug, PartialEq, Eq)]
-pub enum InputFile {
-    Orders,
-    Bill,
-    Offers,
-    Terms,
-    Tree,
-}
 
 /// Where a command writes: the file of the tree, or the output.
 #[derive(Clone, Copy, Debug, PartialEq, Eq)]

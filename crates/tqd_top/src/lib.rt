@@ -12,11 +12,11 @@ mod solve;
 #[cfg(test)]
 mod tests;
 mod text;
-mod usage;
 #[cfg(test)]
 mod word_tests;
 mod words;
 
-pub use answer::{Answer, Ended, InputFile, Target};
+pub use answer::{Answer, Ended, Target};
+pub use plan_report::InputFile;
 pub use run::run_plain;
 pub use words::{Command, JobFiles, read_words};

@@ -5,8 +5,8 @@ ghost use Rattle.tqd_top.specs.Runs.{FindsQuietly, PrintGives};
 
 use crate::answer::{Answer, Ended, Found, Target};
 use crate::find::{find_orders, found};
-use crate::usage::usage_text;
 use crate::words::read_words;
+use plan_report::usage_text;
 use std::alloc::Global;
 use tqd_base::{Desk, DeskStop, Memory};
 

@@ -1,7 +1,7 @@
 -- Each way to read the file has its answer.
 use Rattle.std.proofs.Common.{◌++◌, [], ◌∷◌, refl, subst, sym}
 use Rattle.std.specs.Prelude.{codes}
-use Rattle.tqd_top.specs.declared.answer.InputFile.TheVariants.{Offers as OffersFile}
+use Rattle.plan_report.specs.declared.file.InputFile.TheVariants.{Offers as OffersFile}
 use Rattle.tqd_top.specs.declared.answer.Answer.TheVariants.{NotBuilt, ReadFault}
 use Rattle.tqd_top.specs.Answers.{ReadsAs}
 use Rattle.tqd_top.specs.Finds.{OffersAnswer, not_built_text}
