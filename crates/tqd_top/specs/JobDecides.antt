@@ -8,7 +8,7 @@ use Rattle.tqd_instance.specs.Cost.{cost}
 use Rattle.tqd_instance.specs.Least.{Least, HasNoPurchase}
 use Rattle.tqd_top.specs.declared.answer.Answer.{Answer}
 use Rattle.tqd_top.specs.declared.answer.Answer.TheVariants.{Solved, Infeasible, Listed, Words, BadInput, NotBuilt, ReadFault, WriteFault, Memory}
-use Rattle.tqd_top.specs.PlanText.{plan_text}
+use Rattle.plan_report.specs.PlanText.{plan_text}
 
 -- a least plan of the job, its cost and its text
 pub record SolvesJob (job : Job) (part supplier : Bytes) (plan : Plan) (amount : ℕ) (text : Bytes) : Type 0 where

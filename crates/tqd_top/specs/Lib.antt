@@ -1,7 +1,6 @@
 pub mod Words
 pub mod Reads
 pub mod Plain
-pub mod PlanText
 pub mod Rows
 pub mod OneText
 pub mod OneJob

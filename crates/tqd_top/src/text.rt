@@ -41,10 +41,3 @@ pub(crate) fn end_line(text: &mut Vec<u8>) -> Result<(), Memory>
     text.push(b'\n')?;
     Ok(())
 }
-
-pub(crate) fn add_line(text: &mut Vec<u8>, line: &str) -> Result<(), Memory>
-    ensures { OnOk result (text.new.items ≡ text.old.items ++ line.now ++ 10 ∷ []) }
-{
-    add_word(text, line)?;
-    end_line(text)
-}
