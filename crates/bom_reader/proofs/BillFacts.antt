@@ -20,7 +20,7 @@ length-with_name names name = go (has_name names name) where
   go true = omega arith
   go false = rw length-append (omega arith)
 
-length-with_names : (names more : List (List ℕ)) → length names ≤ length (with_names names more)
+pub length-with_names : (names more : List (List ℕ)) → length names ≤ length (with_names names more)
 length-with_names names [] = omega arith
 length-with_names names (name ∷ more) =
     let one = length-with_name names name in

@@ -7,3 +7,8 @@ pub mod OrderFacts
 pub mod PairFacts
 pub mod LineFacts
 pub mod BillFacts
+pub mod NameLaws
+pub mod OrderLaws
+pub mod LineLaws
+pub mod LineFaultLaws
+pub mod FormLaws

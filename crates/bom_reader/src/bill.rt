@@ -29,15 +29,23 @@ impl Model for Bill {
 
     ghost Value = { BillData };
 
-    ghost view = { λ bill. record { names = bill.names; ordered = bill.ordered.items; lines = bill.lines.items } };
+    ghost view = { λ bill. record {
+      names = bill.names;
+      ordered = bill.ordered.items;
+      lines = bill.lines.items;
+    } };
 
-    ghost invariant = { λ bill. IsBill (record { names = bill.names; ordered = bill.ordered.items; lines = bill.lines.items }) };
+    ghost invariant = { λ bill. IsBill (record {
+      names = bill.names;
+      ordered = bill.ordered.items;
+      lines = bill.lines.items;
+    }) };
 }
 
 impl Bill {
     ghost use Rattle.std.specs.Prelude.{◌≡◌, ◌<◌, ◌≤◌, length, slice_index, slice_get, Some};
     ghost use Rattle.tqd_base.specs.declared.limits.TheConstants.{QTY_MAX};
-    ghost use Rattle.bom_reader.specs.Bill.{IsBill, IsLine};
+    ghost use Rattle.bom_reader.specs.Bill.{IsBill, IsLine, line_with};
 
     /// The names, those of the orders first.
     pub fn names(&self) -> &NameList
@@ -68,8 +76,8 @@ impl Bill {
     /// the assembly, from 1 to 100,000,000.
     pub fn line(&self, at: usize) -> (u32, u32, u64)
         requires { at < length self.now.lines }
-        ensures value { slice_get self.now.lines at ≡ Some (record { assembly = result.0; part = result.1; quantity = result.2 }) }
-        ensures kept { IsLine (length self.now.names) (record { assembly = result.0; part = result.1; quantity = result.2 }) }
+        ensures value { slice_get self.now.lines at ≡ Some (line_with result.0 result.1 result.2) }
+        ensures kept { IsLine (length self.now.names) (line_with result.0 result.1 result.2) }
     {
         let line = self.lines[at];
         (line.assembly, line.part, line.quantity)
