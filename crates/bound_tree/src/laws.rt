@@ -1,0 +1,31 @@
+//! What follows from the definitions alone: functions without a body that computes, whose contracts are the laws.
+ghost use Rattle.std.specs.Prelude.{ℕ, pos, ◌≤ℤ◌, Option};
+ghost use Rattle.tqd_instance.specs.declared.job.Job.{Job};
+ghost use Rattle.tqd_instance.specs.Purchase.{Purchase};
+ghost use Rattle.tqd_instance.specs.Feasible.{Feasible};
+ghost use Rattle.tqd_instance.specs.Cost.{cost};
+ghost use Rattle.interval_box.specs.declared.boxes.IntervalBox.{IntervalBox};
+ghost use Rattle.interval_box.specs.Ranges.{IsIn};
+ghost use Rattle.bound_tree.specs.declared.leaf.Leaf.{Leaf};
+ghost use Rattle.bound_tree.specs.Prices.{Prices};
+ghost use Rattle.bound_tree.specs.Value.{value, free_value};
+ghost use Rattle.bound_tree.specs.Kills.{Kills, Shows};
+
+/// No feasible purchase in a box costs less than the value of any row of prices.
+pub fn no_purchase_costs_less_than_a_value()
+    ensures { (job : Job) (area : IntervalBox) (row : Prices) (x : Purchase)
+        → Feasible job x → IsIn job area x → value job area row ≤ℤ pos (cost job x) }
+{}
+
+/// The free value of a row is above 0 only where no purchase in the box is feasible.
+pub fn no_purchase_has_a_free_value_above_zero()
+    ensures { (job : Job) (area : IntervalBox) (row : Prices) (x : Purchase)
+        → Feasible job x → IsIn job area x → free_value job area row ≤ℤ pos 0 }
+{}
+
+/// A leaf that kills a box against a cost shows that no feasible purchase in the box costs less, where it is a bound, and
+/// else that no purchase in it is feasible.
+pub fn killing_leaves_are_sound()
+    ensures { (job : Job) (area : IntervalBox) (best : Option ℕ) (leaf : Leaf)
+        → Kills job area best leaf → Shows job area best leaf }
+{}
