@@ -1,0 +1,4 @@
+pub mod Signed
+pub mod SignedSums
+pub mod PriceReads
+pub mod SegmentValues

@@ -182,6 +182,7 @@ fn suppliers_value(
     sum
 }
 
+#[tactic(auto, using(crate::proofs::SignedSums::signed_sums), unfolding(crate::specs::Value::goods_value, crate::specs::Prices::price_at))]
 fn goods_value(job: &Job, good_prices: &[i64]) -> i128
     requires goods { length good_prices.now ≡ goods job.now }
     requires goods_in_range { All IsPrice good_prices.now }
