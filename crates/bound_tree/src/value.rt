@@ -129,6 +129,7 @@ fn segment_value(
 }
 
 /// The least value of the segments in a supplier's range, whose prices are at the places from `at` on.
+#[tactic(auto, unfolding(crate::specs::Prices::first_of, crate::specs::Prices::count_of))]
 fn supplier_value(
     job: &Job,
     area: &IntervalBox,
@@ -149,10 +150,10 @@ fn supplier_value(
     ensures not_less { neg_ℤ (pos (10 ^ 27)) ≤ℤ result }
     ensures not_more { result ≤ℤ pos (10 ^ 27) }
 {
-    let low = area.low_of(i);
+    let (low, high) = (area.low_of(i), area.high_of(i));
     let first = low.max(1);
     let mut least = segment_value(job, good_prices, place_prices, asked, i, low, at);
-    for j in low + 1..=area.high_of(i) {
+    for j in low + 1..high + 1 {
         let place = at + usize::from(j - first);
         least = least.min(segment_value(job, good_prices, place_prices, asked, i, j, place));
     }
