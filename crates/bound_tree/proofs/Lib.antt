@@ -2,3 +2,5 @@ pub mod Signed
 pub mod SignedSums
 pub mod PriceReads
 pub mod SegmentValues
+pub mod BoxPlaces
+pub mod Narrowing

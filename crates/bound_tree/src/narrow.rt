@@ -1,9 +1,10 @@
-ghost use Rattle.std.specs.Prelude.{◌≡◌, ℕ, ◌<◌, ◌≤◌, length, IfOk};
+ghost use Rattle.std.specs.Prelude.{◌≡◌, ℕ, ◌+◌, ◌-◌, ◌<◌, ◌≤◌, length, take, drop, IfOk};
 ghost use Rattle.std.specs.List.{All};
+ghost use Rattle.tqd_base.specs.declared.limits.TheConstants.{SUPPLIERS_MAX};
 ghost use Rattle.tqd_instance.specs.Job.{suppliers};
-ghost use Rattle.interval_box.specs.Ranges.{IsBoxOf, Admits};
-ghost use Rattle.bound_tree.specs.Prices.{places_to, IsPrice};
-ghost use Rattle.bound_tree.specs.Narrowed.{IsPartOf, AreNarrowedPlaces};
+ghost use Rattle.interval_box.specs.Ranges.{low_of, high_of, IsBoxOf};
+ghost use Rattle.bound_tree.specs.Prices.{first_of, count_of, places_to, IsPrice};
+ghost use Rattle.bound_tree.specs.Narrowed.{IsPartAt, IsPartOf, AreNarrowedPlaces};
 
 use crate::value::count_of;
 use interval_box::IntervalBox;
@@ -29,14 +30,33 @@ pub(crate) fn narrowed_places(
     let mut narrowed = Vec::with_capacity(alloc, places_of(job, part))?;
     let mut at = 0;
     for i in 0..job.suppliers() {
-        let from = at + usize::from(part.low_of(i).max(1) - area.low_of(i).max(1));
-        narrowed.extend_from_slice(&places[from..from + count_of(part, i)])?;
+        narrowed.extend_from_slice(shared_places(area, part, places, i, at))?;
         at += count_of(area, i);
     }
     Ok(narrowed)
 }
 
+/// The prices of a supplier's places in a box, from place `at` on, that are places of a part of it too.
+#[tactic(auto, unfolding(crate::specs::Prices::first_of, crate::specs::Prices::count_of))]
+fn shared_places<'a>(
+    area: &IntervalBox,
+    part: &IntervalBox,
+    places: &'a [i64],
+    i: usize,
+    at: usize,
+) -> &'a [i64]
+    requires supplier { i < SUPPLIERS_MAX }
+    requires ordered { low_of part.now i ≤ high_of part.now i }
+    requires within { IsPartAt part.now area.now i }
+    requires places { at + count_of area.now i ≤ length places.now }
+    ensures { result.now ≡ take (count_of part.now i) (drop (at + (first_of part.now i - first_of area.now i)) places.now) }
+{
+    let from = at + usize::from(part.low_of(i).max(1) - area.low_of(i).max(1));
+    &places[from..from + count_of(part, i)]
+}
+
 /// How many places a box has, at most 1,024.
+#[tactic(auto, using(crate::proofs::BoxPlaces::places, crate::proofs::BoxPlaces::count_few))]
 fn places_of(job: &Job, area: &IntervalBox) -> usize
     requires { IsBoxOf job.now area.now }
     ensures { result ≡ places_to area.now (suppliers job.now) }

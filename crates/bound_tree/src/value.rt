@@ -160,6 +160,7 @@ fn supplier_value(
     least
 }
 
+#[tactic(auto, using(crate::proofs::SignedSums::signed_sums, crate::proofs::BoxPlaces::places))]
 fn suppliers_value(
     job: &Job,
     area: &IntervalBox,
@@ -199,6 +200,7 @@ fn goods_value(job: &Job, good_prices: &[i64]) -> i128
 }
 
 /// The value of a row in a box, with the charges that are asked, in one pass over the job's prices.
+#[tactic(auto, unfolding(crate::specs::Value::value_by))]
 pub(crate) fn value_by(
     job: &Job,
     area: &IntervalBox,
@@ -217,6 +219,7 @@ pub(crate) fn value_by(
 }
 
 /// The value of the row of these prices, those of the goods first, then those of the places of the box.
+#[tactic(auto, unfolding(crate::specs::Prices::row_of))]
 pub fn value_in(job: &Job, area: &IntervalBox, prices: &[i64]) -> i128
     requires of_job { IsBoxOf job.now area.now }
     requires fits { Fits job.now area.now (row_of job.now prices.now) }
@@ -229,6 +232,7 @@ pub fn value_in(job: &Job, area: &IntervalBox, prices: &[i64]) -> i128
 }
 
 /// The free value of that row: with every price and every fee of the job taken as 0.
+#[tactic(auto, unfolding(crate::specs::Prices::row_of))]
 pub fn value_free_in(job: &Job, area: &IntervalBox, prices: &[i64]) -> i128
     requires of_job { IsBoxOf job.now area.now }
     requires fits { Fits job.now area.now (row_of job.now prices.now) }
