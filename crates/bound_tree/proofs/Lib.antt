@@ -4,3 +4,4 @@ pub mod PriceReads
 pub mod SegmentValues
 pub mod BoxPlaces
 pub mod Narrowing
+pub mod NarrowedValues
