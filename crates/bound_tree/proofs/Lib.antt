@@ -5,3 +5,5 @@ pub mod SegmentValues
 pub mod BoxPlaces
 pub mod Narrowing
 pub mod NarrowedValues
+pub mod Duality
+pub mod Soundness
