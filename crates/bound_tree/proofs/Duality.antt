@@ -57,14 +57,14 @@ within_cap job x i k f supplier good = omega (arith, f.stocks i k supplier good,
 -- the gains of what is bought in a segment are no less than the least gains
 gains_le : (charges : Charges) (job : Job) (prices : List ℤ) (h : ℤ) (x : Purchase) (i j : ℕ) → ((k : ℕ) → k < goods job → x i k ≤ cap job i k)
     → (gains charges job prices h i j +ℤ pos (sum_to (goods job) (λ k. up (price_at prices k) * x i k) + up h * total job x i))
-        ≤ℤ pos (sum_to (goods job) (λ k. x i k * charges.price i j k) + (sum_to (goods job) (λ k. down (price_at prices k) * x i k) + down h * total job x i))
+    ≤ℤ pos (sum_to (goods job) (λ k. x i k * charges.price i j k) + (sum_to (goods job) (λ k. down (price_at prices k) * x i k) + down h * total job x i))
 unfolding total
 gains_le charges job prices h x i j few =
     let n = goods job in
     let g : ℕ → ℤ = price_at prices in
     let b = signed_sum_to-between n (λ k. least_gain (cap job i k) (charges.price i j k) (g k) h)
-        (λ k. up (g k) * x i k + up h * x i k) (λ k. x i k * charges.price i j k + (down (g k) * x i k + down h * x i k))
-        (λ k below. gain_le (x i k) (cap job i k) (charges.price i j k) (g k) h (few k below)) in
+    (λ k. up (g k) * x i k + up h * x i k) (λ k. x i k * charges.price i j k + (down (g k) * x i k + down h * x i k))
+    (λ k below. gain_le (x i k) (cap job i k) (charges.price i j k) (g k) h (few k below)) in
     let u = sum_to-add n (λ k. up (g k) * x i k) (λ k. up h * x i k) in
     let v = sum_to-mul n (up h) (x i) in
     let p = sum_to-add n (λ k. x i k * charges.price i j k) (λ k. down (g k) * x i k + down h * x i k) in
@@ -83,7 +83,7 @@ selects job x i j is = ap (λ o. unwrap_or o 0) is
 bought_some : (charges : Charges) (job : Job) (prices : List ℤ) (h : ℤ) (x : Purchase) (i j : ℕ) → Feasible job x → i < suppliers job → 1 ≤ j
     → low job i j ≤ total job x i → total job x i ≤ high job i j → 1 ≤ low job i j → selected job x i ≡ j
     → (segment_value charges job prices h i j +ℤ pos (sum_to (goods job) (λ k. up (price_at prices k) * x i k)))
-        ≤ℤ pos (paid charges job x i + sum_to (goods job) (λ k. down (price_at prices k) * x i k))
+    ≤ℤ pos (paid charges job x i + sum_to (goods job) (λ k. down (price_at prices k) * x i k))
 unfolding paid
 bought_some charges job prices h x i j f supplier some from to from_one is =
     let value = segment_value-some charges job prices h i j some in
@@ -95,18 +95,18 @@ bought_some charges job prices h x i j f supplier some from to from_one is =
 
 bought_none : (charges : Charges) (job : Job) (prices : List ℤ) (h : ℤ) (x : Purchase) (i j : ℕ) → j ≡ 0 → total job x i ≡ 0
     → (segment_value charges job prices h i j +ℤ pos (sum_to (goods job) (λ k. up (price_at prices k) * x i k)))
-        ≤ℤ pos (paid charges job x i + sum_to (goods job) (λ k. down (price_at prices k) * x i k))
+    ≤ℤ pos (paid charges job x i + sum_to (goods job) (λ k. down (price_at prices k) * x i k))
 unfolding total
 bought_none charges job prices h x i j first none =
     let value = segment_value-none charges job prices h i j first in
     let nothing = sum_to-zeros (goods job) (λ k. up (price_at prices k) * x i k)
-        (λ k below. (let units = sum_to-none (goods job) (x i) none k below in omega (arith, ap (λ n. up (price_at prices k) * n) units))) in
+    (λ k below. (let units = sum_to-none (goods job) (x i) none k below in omega (arith, ap (λ n. up (price_at prices k) * n) units))) in
     omega (arith, ints)
 
 -- what a supplier is paid, beyond the prices of the goods, is no less than its value
 supplier_bound : (charges : Charges) (job : Job) (area : IntervalBox) (prices : List ℤ) (h : ℕ → ℤ) (x : Purchase) (i : ℕ) → Feasible job x → IsIn job area x → i < suppliers job
     → (supplier_value charges job area prices h i +ℤ pos (sum_to (goods job) (λ k. up (price_at prices k) * x i k)))
-        ≤ℤ pos (paid charges job x i + sum_to (goods job) (λ k. down (price_at prices k) * x i k))
+    ≤ℤ pos (paid charges job x i + sum_to (goods job) (λ k. down (price_at prices k) * x i k))
 unfolding supplier_value
 supplier_bound charges job area prices h x i f inside supplier =
     let p = picked job area x i (inside i supplier) in
@@ -114,14 +114,14 @@ supplier_bound charges job area prices h x i f inside supplier =
     let lies = ((picks_where_it_lies job i (total job x i) supplier).some j).0 p.is in
     let s = (job_in_range job).each_supplier i supplier in
     let least = least_from-le (low_of area i) (high_of area i - low_of area i) (λ j. segment_value charges job prices (h j) i j) j
-        (p.admitted.from_low) (omega (arith, p.admitted.from_low, p.admitted.to_high)) in
+    (p.admitted.from_low) (omega (arith, p.admitted.from_low, p.admitted.to_high)) in
     let bound = bought charges job prices h x i j f supplier lies s (selects job x i j p.is) in
     omega (arith, ints)
   where
     bought : (charges : Charges) (job : Job) (prices : List ℤ) (h : ℕ → ℤ) (x : Purchase) (i j : ℕ) → Feasible job x → i < suppliers job → LiesIn job i j (total job x i)
         → IsSupplierInRange job i → selected job x i ≡ j
         → (segment_value charges job prices (h j) i j +ℤ pos (sum_to (goods job) (λ k. up (price_at prices k) * x i k)))
-            ≤ℤ pos (paid charges job x i + sum_to (goods job) (λ k. down (price_at prices k) * x i k))
+        ≤ℤ pos (paid charges job x i + sum_to (goods job) (λ k. down (price_at prices k) * x i k))
     bought charges job prices h x i j f supplier lies s is = elim (cases_lt 0 j) [
       | inl some ↦ bought_some charges job prices (h j) x i j f supplier some lies.from_low lies.to_high (s.each_segment j some lies.segment).from_one is
       | inr none ↦
@@ -135,7 +135,7 @@ unfolding bought
 columns job x w =
     sum_to-swap (suppliers job) (goods job) (λ i k. w k * x i k)
     ∙ sum_to-same (goods job) (λ k. sum_to (suppliers job) (λ i. w k * x i k)) (λ k. w k * sum_to (suppliers job) (λ i. x i k))
-        (λ k below. sum_to-mul (suppliers job) (w k) (λ i. x i k))
+    (λ k below. sum_to-mul (suppliers job) (w k) (λ i. x i k))
 
 goods_bound : (job : Job) (prices : List ℤ) (x : Purchase) → Feasible job x
     → (goods_value job prices +ℤ pos (sum_to (goods job) (λ k. down (price_at prices k) * bought job x k))) ≤ℤ pos (sum_to (goods job) (λ k. up (price_at prices k) * bought job x k))
@@ -152,8 +152,8 @@ value_bound charges job area row x f inside =
     let m = suppliers job in
     let g : ℕ → ℤ = price_at row.goods in
     let each = signed_sum_to-between m (λ i. supplier_value charges job area row.goods (segment_price area row i) i) (λ i. sum_to (goods job) (λ k. up (g k) * x i k))
-        (λ i. paid charges job x i + sum_to (goods job) (λ k. down (g k) * x i k))
-        (λ i below. supplier_bound charges job area row.goods (segment_price area row i) x i f inside below) in
+    (λ i. paid charges job x i + sum_to (goods job) (λ k. down (g k) * x i k))
+    (λ i below. supplier_bound charges job area row.goods (segment_price area row i) x i f inside below) in
     let split = sum_to-add m (paid charges job x) (λ i. sum_to (goods job) (λ k. down (g k) * x i k)) in
     let ups = columns job x (λ k. up (g k)) in
     let downs = columns job x (λ k. down (g k)) in

@@ -7,3 +7,4 @@ pub mod Narrowing
 pub mod NarrowedValues
 pub mod Duality
 pub mod Soundness
+pub mod OneList

@@ -27,10 +27,10 @@ unfolding supplier_value
 supplier_le charges job area part prices g h i ordered p same =
     le-least_from (low_of part i) (high_of part i - low_of part i) (λ j. segment_value charges job prices (h j) i j) _
     (λ j from to.
-        let admits : Admits part i j = record { from_low = from; to_high = omega arith } in
-        let least = least_from-le (low_of area i) (high_of area i - low_of area i) (λ j. segment_value charges job prices (g j) i j) j (omega (arith, p.low)) (omega (arith, p.low, p.high)) in
-        subst (λ z. least_from (low_of area i) (high_of area i - low_of area i) (λ j. segment_value charges job prices (g j) i j) ≤ℤ z)
-        (segment_same charges job prices (g j) (h j) i j (λ some. same j some admits)) least)
+    let admits : Admits part i j = record { from_low = from; to_high = omega arith } in
+    let least = least_from-le (low_of area i) (high_of area i - low_of area i) (λ j. segment_value charges job prices (g j) i j) j (omega (arith, p.low)) (omega (arith, p.low, p.high)) in
+    subst (λ z. least_from (low_of area i) (high_of area i - low_of area i) (λ j. segment_value charges job prices (g j) i j) ≤ℤ z)
+    (segment_same charges job prices (g j) (h j) i j (λ some. same j some admits)) least)
 
 value_by-is : (charges : Charges) (job : Job) (area : IntervalBox) (row : Prices)
     → value_by charges job area row ≡ goods_value job row.goods +ℤ signed_sum_to (suppliers job) (λ i. supplier_value charges job area row.goods (segment_price area row i) i)
@@ -42,10 +42,10 @@ value_le : (charges : Charges) (job : Job) (area part : IntervalBox) (row narrow
     → value_by charges job area row ≤ℤ value_by charges job part narrowed
 value_le charges job area part row narrowed b within goods same =
     let sums = signed_sum_to-le (suppliers job)
-        (λ i. supplier_value charges job area row.goods (segment_price area row i) i) (λ i. supplier_value charges job part narrowed.goods (segment_price part narrowed i) i)
-        (λ i below. subst (λ ps. supplier_value charges job area row.goods (segment_price area row i) i ≤ℤ supplier_value charges job part ps (segment_price part narrowed i) i) (sym goods)
-            (supplier_le charges job area part row.goods (segment_price area row i) (segment_price part narrowed i) i (b.ranges i below).ordered (within i below)
-            (λ j some admits. sym (same i j below some admits)))) in
+    (λ i. supplier_value charges job area row.goods (segment_price area row i) i) (λ i. supplier_value charges job part narrowed.goods (segment_price part narrowed i) i)
+    (λ i below. subst (λ ps. supplier_value charges job area row.goods (segment_price area row i) i ≤ℤ supplier_value charges job part ps (segment_price part narrowed i) i) (sym goods)
+    (supplier_le charges job area part row.goods (segment_price area row i) (segment_price part narrowed i) i (b.ranges i below).ordered (within i below)
+    (λ j some admits. sym (same i j below some admits)))) in
     omega (arith, ints, value_by-is charges job area row, value_by-is charges job part narrowed, ap (goods_value job) goods)
 
 pub is_narrowed : (job : Job) (area part : IntervalBox) (row narrowed : Prices) → IsBoxOf job part → IsPartOf job part area → Fits job area row → narrowed.goods ≡ row.goods

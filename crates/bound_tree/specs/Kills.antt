@@ -18,6 +18,12 @@ Kills job area best (Bound row) = Fits job area row × IsSomeAnd best (λ c. pos
 Kills job area best (Empty row) = Fits job area row × (pos 0 <ℤ free_value job area row)
 Kills job area best Winners = WinnersFail job area
 
+-- the row of a leaf that has one fits the box
+abbrev pub LeafFits : Job → IntervalBox → Leaf → Type 0
+LeafFits job area (Bound row) = Fits job area row
+LeafFits job area (Empty row) = Fits job area row
+LeafFits job area Winners = Unit {0}
+
 -- no feasible purchase in a box costs less than c
 abbrev pub NoneCheaper : Job → IntervalBox → ℕ → Type 0
 NoneCheaper job area c = (x : Purchase) → Feasible job x → IsIn job area x → c ≤ cost job x

@@ -52,3 +52,8 @@ pub record Fits (job : Job) (area : IntervalBox) (row : Prices) : Type 0 where
 -- the row that one list of prices is, those of the goods first
 unfoldable pub row_of : Job → List ℤ → Prices
 row_of job prices = record { goods = take (goods job) prices; places = drop (goods job) prices }
+
+-- prices in one list for a box: one for each good and one for each place
+pub record AreFitting (job : Job) (area : IntervalBox) (prices : List ℤ) : Type 0 where
+  pub count : length prices ≡ goods job + places_to area (suppliers job)
+  pub in_range : All IsPrice prices

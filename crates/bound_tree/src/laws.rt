@@ -1,5 +1,5 @@
 //! What follows from the definitions alone: functions without a body that computes, whose contracts are the laws.
-ghost use Rattle.std.specs.Prelude.{ℕ, pos, ◌≤ℤ◌, Option};
+ghost use Rattle.std.specs.Prelude.{ℕ, ℤ, pos, ◌≤ℤ◌, ◌↔◌, List, Option};
 ghost use Rattle.tqd_instance.specs.declared.job.Job.{Job};
 ghost use Rattle.tqd_instance.specs.Purchase.{Purchase};
 ghost use Rattle.tqd_instance.specs.Feasible.{Feasible};
@@ -7,9 +7,14 @@ ghost use Rattle.tqd_instance.specs.Cost.{cost};
 ghost use Rattle.interval_box.specs.declared.boxes.IntervalBox.{IntervalBox};
 ghost use Rattle.interval_box.specs.Ranges.{IsIn};
 ghost use Rattle.bound_tree.specs.declared.leaf.Leaf.{Leaf};
-ghost use Rattle.bound_tree.specs.Prices.{Prices};
+ghost use Rattle.bound_tree.specs.Prices.{Prices, Fits, row_of, AreFitting};
 ghost use Rattle.bound_tree.specs.Value.{value, free_value};
 ghost use Rattle.bound_tree.specs.Kills.{Kills, Shows};
+
+/// Prices in one list are a row that fits a box exactly where there are as many as the box calls for, and all in range.
+pub fn prices_fit_as_one_list()
+    ensures { (job : Job) (area : IntervalBox) (prices : List ℤ) → Fits job area (row_of job prices) ↔ AreFitting job area prices }
+{}
 
 /// No feasible purchase in a box costs less than the value of any row of prices.
 pub fn no_purchase_costs_less_than_a_value()

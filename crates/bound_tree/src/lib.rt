@@ -9,14 +9,17 @@
 //! one pass over the prices of the job, and take no memory. `Row::narrowed` keeps a row's prices for a part of its box.
 #![tactic(auto)]
 
+mod kills;
 pub mod laws;
 mod leaf;
 mod narrow;
+mod places;
 mod row;
 #[cfg(test)]
 mod tests;
 mod value;
 
 pub use leaf::{Leaf, TreeNode};
+pub use places::place_count;
 pub use row::Row;
 pub use value::{value_free_in, value_in};

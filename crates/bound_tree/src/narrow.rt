@@ -6,7 +6,7 @@ ghost use Rattle.interval_box.specs.Ranges.{low_of, high_of, IsBoxOf};
 ghost use Rattle.bound_tree.specs.Prices.{first_of, count_of, places_to, IsPrice};
 ghost use Rattle.bound_tree.specs.Narrowed.{IsPartAt, IsPartOf, AreNarrowedPlaces};
 
-use crate::value::count_of;
+use crate::places::{count_of, place_count};
 use interval_box::IntervalBox;
 use std::alloc::Global;
 use tqd_base::Memory;
@@ -27,7 +27,7 @@ pub(crate) fn narrowed_places(
     requires places { length places.now ≡ places_to area.now (suppliers job.now) }
     ensures { IfOk result (λ narrowed. AreNarrowedPlaces job.now area.now part.now places.now narrowed.items) }
 {
-    let mut narrowed = Vec::with_capacity(alloc, places_of(job, part))?;
+    let mut narrowed = Vec::with_capacity(alloc, place_count(job, part))?;
     let mut at = 0;
     for i in 0..job.suppliers() {
         narrowed.extend_from_slice(shared_places(area, part, places, i, at))?;
@@ -53,17 +53,4 @@ fn shared_places<'a>(
 {
     let from = at + usize::from(part.low_of(i).max(1) - area.low_of(i).max(1));
     &places[from..from + count_of(part, i)]
-}
-
-/// How many places a box has, at most 1,024.
-#[tactic(auto, using(crate::proofs::BoxPlaces::places, crate::proofs::BoxPlaces::count_few))]
-fn places_of(job: &Job, area: &IntervalBox) -> usize
-    requires { IsBoxOf job.now area.now }
-    ensures { result ≡ places_to area.now (suppliers job.now) }
-{
-    let mut sum = 0;
-    for i in 0..job.suppliers() {
-        sum += count_of(area, i);
-    }
-    sum
 }

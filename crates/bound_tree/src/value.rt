@@ -19,6 +19,7 @@ ghost use Rattle.bound_tree.specs.Value.{
 };
 ghost use Rattle.bound_tree.specs.Asked.{asked_of, charges_by};
 
+use crate::places::count_of;
 use interval_box::IntervalBox;
 use tqd_instance::Job;
 
@@ -40,16 +41,6 @@ impl Asked {
             Asked::Nothing => 0,
         }
     }
-}
-
-/// How many segments of a supplier's range something is bought in, at most 16.
-#[tactic(auto, unfolding(crate::specs::Prices::first_of, crate::specs::Prices::count_of))]
-pub(crate) fn count_of(area: &IntervalBox, i: usize) -> usize
-    requires supplier { i < SUPPLIERS_MAX }
-    requires ordered { low_of area.now i ≤ high_of area.now i }
-    ensures { result ≡ count_of area.now i }
-{
-    usize::from(area.high_of(i)) + 1 - usize::from(area.low_of(i).max(1))
 }
 
 /// The least of a price times a number of units from `low` to `high`.
@@ -89,10 +80,11 @@ fn savings(job: &Job, good_prices: &[i64], asked: Asked, place: i64, i: usize, j
         (λ k. least_gain (cap job.now i k) ((charges_by asked job.now).price i j k) (price_at good_prices.now k) place) }
     ensures within { result ≤ 8 * 10 ^ 26 }
 {
+    let prices = job.prices(i, j);
     let mut sum = 0;
     for k in 0..job.goods() {
         let units = job.stock(i, k).min(job.most(k));
-        let charge = asked.of(job.price(i, j, k));
+        let charge = asked.of(prices[k]);
         sum += u128::from(units) * u128::from(saving(good_prices[k], place, charge));
     }
     sum

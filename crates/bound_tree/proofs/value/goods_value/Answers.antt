@@ -12,7 +12,7 @@ loop-k-preserved c =
     let i = c.loop-k.invariant in
     let m = signed_sum_to-more c.loop-k.k (λ k. least_times (price_at c.args.good_prices.now k) (need c.args.job.now k) (most c.args.job.now k)) in
     let e : c.least_times-sum.result ≡ least_times (price_at c.args.good_prices.now c.loop-k.k) (need c.args.job.now c.loop-k.k) (most c.args.job.now c.loop-k.k) =
-        (let v = c.least_times-sum.ensures.value in
-        let p = price_read c.args.good_prices.now c.loop-k.k c.requires.goods_in_range in
-        cc) in
+    (let v = c.least_times-sum.ensures.value in
+    let p = price_read c.args.good_prices.now c.loop-k.k c.requires.goods_in_range in
+    cc) in
     record { is_sum = omega (arith, ints); not_less = omega (arith, ints); not_more = omega (arith, ints) }

@@ -25,9 +25,9 @@ returns-clause-value c =
     let some = segment_value-some charges job prices h i j (omega (arith, c.if-j-eq0.false)) in
     let sum = λ (h : ℤ). signed_sum_to (goods job) (λ k. least_gain (cap job i k) (charges.price i j k) (price_at prices k) h) in
     let saved : neg_ℤ (pos c.savings-savings.result) ≡ gains charges job prices h i j =
-        c.savings-savings.ensures.value ∙ ap sum r ∙ sym (gains-are charges job prices h i j) in
+    c.savings-savings.ensures.value ∙ ap sum r ∙ sym (gains-are charges job prices h i j) in
     let times : c.least_times-total.result ≡ least_times h (low job i j) (high job i j) =
-        (let v = c.least_times-total.ensures.value in let l = c.low.ensures.value in let t = c.high.ensures.value in cc) in
+    (let v = c.least_times-total.ensures.value in let l = c.low.ensures.value in let t = c.high.ensures.value in cc) in
     let paid : c.of.result ≡ asked_of c.args.asked (fee job i) =
-        (let v = c.of.ensures.value in let f = c.fee.ensures.value in cc) in
+    (let v = c.of.ensures.value in let f = c.fee.ensures.value in cc) in
     omega (arith, ints)

@@ -26,8 +26,8 @@ loop-j-init c =
     let none : low + 1 - (low + 1) ≡ 0 = omega arith in
     let place : c.args.at + (low - first) ≡ c.args.at = omega arith in
     let here : c.segment_value-least.result ≡ f low =
-        c.segment_value-least.ensures.value
-        ∙ ap (λ p. segment_value (charges_by c.args.asked c.args.job.now) c.args.job.now c.args.good_prices.now (price_at c.args.place_prices.now p) c.args.i low) (sym place) in
+    c.segment_value-least.ensures.value
+    ∙ ap (λ p. segment_value (charges_by c.args.asked c.args.job.now) c.args.job.now c.args.good_prices.now (price_at c.args.place_prices.now p) c.args.i low) (sym place) in
     let least : least_from low (low + 1 - (low + 1)) f ≡ f low = ap (λ n. least_from low n f) none ∙ least_from-zero low f in
     record { is_least = omega (arith, ints); not_less = omega (arith, ints); not_more = omega (arith, ints) }
 
@@ -40,12 +40,12 @@ loop-j-preserved c =
     let f = λ (j : ℕ). segment_value (charges_by c.args.asked c.args.job.now) c.args.job.now c.args.good_prices.now (price_at c.args.place_prices.now (c.args.at + (j - first))) c.args.i j in
     let at : j ≡ low + (j + 1 - (low + 1)) = omega arith in
     let here : c.segment_value.result ≡ f (low + (j + 1 - (low + 1))) =
-        c.segment_value.ensures.value
-        ∙ ap (λ p. segment_value (charges_by c.args.asked c.args.job.now) c.args.job.now c.args.good_prices.now (price_at c.args.place_prices.now (c.args.at + p)) c.args.i j) c.from.ensures
-        ∙ ap f at in
+    c.segment_value.ensures.value
+    ∙ ap (λ p. segment_value (charges_by c.args.asked c.args.job.now) c.args.job.now c.args.good_prices.now (price_at c.args.place_prices.now (c.args.at + p)) c.args.i j) c.from.ensures
+    ∙ ap f at in
     let least : c.min-least.result ≡ int_min c.loop-j.least c.segment_value.result = omega (arith, ints, clamps) in
     let next : c.min-least.result ≡ least_from low (j + 1 - (low + 1)) f =
-        least_from-next low (j - (low + 1)) (j + 1 - (low + 1)) f c.loop-j.least c.segment_value.result c.min-least.result (sym c.loop-j.least-is ∙ i.is_least) here (omega arith) least in
+    least_from-next low (j - (low + 1)) (j + 1 - (low + 1)) f c.loop-j.least c.segment_value.result c.min-least.result (sym c.loop-j.least-is ∙ i.is_least) here (omega arith) least in
     record { is_least = omega (arith, ints); not_less = omega (arith, ints, clamps); not_more = omega (arith, ints, clamps) }
 
 few : (c : goal.After-segment_value-least) → high_of c.args.area.now c.args.i ≤ 16
@@ -65,6 +65,6 @@ returns-clause-value c =
     let all : n ≡ high_of c.args.area.now c.args.i - low_of c.args.area.now c.args.i = omega (arith, c.requires.range.ordered) in
     c.loop-j.invariant.is_least
     ∙ ap (λ first. least_from low n
-        (λ j. segment_value (charges_by c.args.asked c.args.job.now) c.args.job.now c.args.good_prices.now (price_at c.args.place_prices.now (c.args.at + (j - first))) c.args.i j)) first
+    (λ j. segment_value (charges_by c.args.asked c.args.job.now) c.args.job.now c.args.good_prices.now (price_at c.args.place_prices.now (c.args.at + (j - first))) c.args.i j)) first
     ∙ sym (supplier_value-is (charges_by c.args.asked c.args.job.now) c.args.job.now c.args.area.now c.args.good_prices.now
-        (λ j. price_at c.args.place_prices.now (c.args.at + (j - first_of c.args.area.now c.args.i))) c.args.i low n c.low_of-low.ensures all)
+    (λ j. price_at c.args.place_prices.now (c.args.at + (j - first_of c.args.area.now c.args.i))) c.args.i low n c.low_of-low.ensures all)

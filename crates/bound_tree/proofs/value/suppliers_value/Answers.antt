@@ -25,11 +25,11 @@ loop-i-preserved c =
     let i = c.loop-i.i in
     let charges = charges_by c.args.asked c.args.job.now in
     let f = λ (i : ℕ). supplier_value charges c.args.job.now c.args.area.now c.args.good_prices.now
-        (segment_price c.args.area.now (record { goods = c.args.good_prices.now; places = c.args.place_prices.now }) i) i in
+    (segment_price c.args.area.now (record { goods = c.args.good_prices.now; places = c.args.place_prices.now }) i) i in
     let more = signed_sum_to-more i f in
     let here : c.supplier_value-sum.result ≡ f i =
-        c.supplier_value-sum.ensures.value
-        ∙ ap (λ at. supplier_value charges c.args.job.now c.args.area.now c.args.good_prices.now (λ j. price_at c.args.place_prices.now (at + (j - first_of c.args.area.now i))) i) inv.place in
+    c.supplier_value-sum.ensures.value
+    ∙ ap (λ at. supplier_value charges c.args.job.now c.args.area.now c.args.good_prices.now (λ j. price_at c.args.place_prices.now (at + (j - first_of c.args.area.now i))) i) inv.place in
     record {
       place = omega (arith, places_to-more c.args.area.now i);
       few = omega (arith, few c, inv.few);

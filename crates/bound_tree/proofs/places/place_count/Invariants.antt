@@ -1,6 +1,6 @@
 use Rattle.std.proofs.Common.{◌≡◌, ◌*◌, ◌≤◌}
 use Rattle.bound_tree.specs.Prices.{places_to}
-use Rattle.bound_tree.proofs.narrow.places_of.Given as goal
+use Rattle.bound_tree.proofs.places.place_count.Given as goal
 
 abbrev pub invariant-loop-i : goal.invariant-loop-i
 invariant-loop-i l = record {
