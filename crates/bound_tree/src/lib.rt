@@ -20,6 +20,6 @@ mod tests;
 mod value;
 
 pub use leaf::{Leaf, TreeNode};
-pub use places::place_count;
+pub use places::{place_count, prices_fit};
 pub use row::Row;
 pub use value::{value_free_in, value_in};
