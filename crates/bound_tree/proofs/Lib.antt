@@ -8,3 +8,4 @@ pub mod NarrowedValues
 pub mod Duality
 pub mod Soundness
 pub mod OneList
+pub mod HalfParts

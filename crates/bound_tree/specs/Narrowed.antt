@@ -5,6 +5,7 @@ use Rattle.tqd_instance.specs.declared.job.Job.{Job}
 use Rattle.tqd_instance.specs.Job.{suppliers}
 use Rattle.interval_box.specs.declared.boxes.IntervalBox.{IntervalBox}
 use Rattle.interval_box.specs.Ranges.{low_of, high_of, Admits}
+use Rattle.interval_box.specs.Halves.{low_half, high_half}
 use Rattle.bound_tree.specs.Prices.{Prices, places_to, place_of, price_at, segment_price, IsPrice, Fits}
 use Rattle.bound_tree.specs.Value.{value, free_value}
 
@@ -15,6 +16,11 @@ pub record IsPartAt (part area : IntervalBox) (i : ℕ) : Type 0 where
 
 abbrev pub IsPartOf : Job → IntervalBox → IntervalBox → Type 0
 IsPartOf job part area = (i : ℕ) → i < suppliers job → IsPartAt part area i
+
+-- the two halves of a split are parts of the box
+pub record AreParts (job : Job) (area : IntervalBox) (i s : ℕ) : Type 0 where
+  pub low : IsPartOf job (low_half area i s) area
+  pub high : IsPartOf job (high_half area i s) area
 
 -- the row of a box narrowed to a part of it: a row of the part with the same prices, whose values are not lower
 pub record IsNarrowed (job : Job) (area part : IntervalBox) (row narrowed : Prices) : Type 0 where

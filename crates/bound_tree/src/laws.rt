@@ -5,15 +5,22 @@ ghost use Rattle.tqd_instance.specs.Purchase.{Purchase};
 ghost use Rattle.tqd_instance.specs.Feasible.{Feasible};
 ghost use Rattle.tqd_instance.specs.Cost.{cost};
 ghost use Rattle.interval_box.specs.declared.boxes.IntervalBox.{IntervalBox};
-ghost use Rattle.interval_box.specs.Ranges.{IsIn};
+ghost use Rattle.interval_box.specs.Ranges.{IsBoxOf, IsIn};
+ghost use Rattle.interval_box.specs.Halves.{IsProper};
 ghost use Rattle.bound_tree.specs.declared.leaf.Leaf.{Leaf};
 ghost use Rattle.bound_tree.specs.Prices.{Prices, Fits, row_of, AreFitting};
 ghost use Rattle.bound_tree.specs.Value.{value, free_value};
 ghost use Rattle.bound_tree.specs.Kills.{Kills, Shows};
+ghost use Rattle.bound_tree.specs.Narrowed.{AreParts};
 
 /// Prices in one list are a row that fits a box exactly where there are as many as the box calls for, and all in range.
 pub fn prices_fit_as_one_list()
     ensures { (job : Job) (area : IntervalBox) (prices : List ℤ) → Fits job area (row_of job prices) ↔ AreFitting job area prices }
+{}
+
+/// The halves of a proper split of a box are parts of it, so that a row of the box can be narrowed to each.
+pub fn halves_are_parts()
+    ensures { (job : Job) (area : IntervalBox) (i s : ℕ) → IsBoxOf job area → IsProper area i s → AreParts job area i s }
 {}
 
 /// No feasible purchase in a box costs less than the value of any row of prices.

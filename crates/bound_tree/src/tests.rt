@@ -233,5 +233,6 @@ fn an_empty_leaf_kills_where_its_free_value_is_above_zero(rt: HostRuntime) -> Re
     laws::no_purchase_costs_less_than_a_value();
     laws::no_purchase_has_a_free_value_above_zero();
     laws::prices_fit_as_one_list();
+    laws::halves_are_parts();
     Ok(())
 }
