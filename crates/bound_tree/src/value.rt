@@ -147,7 +147,8 @@ fn supplier_value(
     let mut least = segment_value(job, good_prices, place_prices, asked, i, low, at);
     for j in low + 1..high + 1 {
         let place = at + usize::from(j - first);
-        least = least.min(segment_value(job, good_prices, place_prices, asked, i, j, place));
+        let value = segment_value(job, good_prices, place_prices, asked, i, j, place);
+        least = least.min(value);
     }
     least
 }

@@ -39,13 +39,13 @@ loop-j-preserved c =
     let j = c.loop-j.j in
     let f = λ (j : ℕ). segment_value (charges_by c.args.asked c.args.job.now) c.args.job.now c.args.good_prices.now (price_at c.args.place_prices.now (c.args.at + (j - first))) c.args.i j in
     let at : j ≡ low + (j + 1 - (low + 1)) = omega arith in
-    let here : c.segment_value.result ≡ f (low + (j + 1 - (low + 1))) =
-    c.segment_value.ensures.value
+    let here : c.segment_value-value.result ≡ f (low + (j + 1 - (low + 1))) =
+    c.segment_value-value.ensures.value
     ∙ ap (λ p. segment_value (charges_by c.args.asked c.args.job.now) c.args.job.now c.args.good_prices.now (price_at c.args.place_prices.now (c.args.at + p)) c.args.i j) c.from.ensures
     ∙ ap f at in
-    let least : c.min-least.result ≡ int_min c.loop-j.least c.segment_value.result = omega (arith, ints, clamps) in
+    let least : c.min-least.result ≡ int_min c.loop-j.least c.segment_value-value.result = omega (arith, ints, clamps) in
     let next : c.min-least.result ≡ least_from low (j + 1 - (low + 1)) f =
-    least_from-next low (j - (low + 1)) (j + 1 - (low + 1)) f c.loop-j.least c.segment_value.result c.min-least.result (sym c.loop-j.least-is ∙ i.is_least) here (omega arith) least in
+    least_from-next low (j - (low + 1)) (j + 1 - (low + 1)) f c.loop-j.least c.segment_value-value.result c.min-least.result (sym c.loop-j.least-is ∙ i.is_least) here (omega arith) least in
     record { is_least = omega (arith, ints); not_less = omega (arith, ints, clamps); not_more = omega (arith, ints, clamps) }
 
 few : (c : goal.After-segment_value-least) → high_of c.args.area.now c.args.i ≤ 16
