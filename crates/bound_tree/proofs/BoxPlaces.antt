@@ -1,12 +1,11 @@
 -- Where the places of a supplier stand among those of a box.
-use Rattle.std.proofs.Common.{ℕ, suc, zero, ◌≡◌, ◌+◌, ◌-◌, ◌*◌, ◌<◌, ◌≤◌, max, refl, ap, ◌∙◌, add-one, arith}
+use Rattle.std.proofs.Common.{ℕ, suc, ◌≡◌, ◌+◌, ◌<◌, ◌≤◌, arith}
 use Rattle.tqd_instance.specs.declared.job.Job.{Job}
-use Rattle.tqd_instance.specs.Sum.{sum_to}
-use Rattle.tqd_instance.specs.Job.{suppliers, segments}
+use Rattle.tqd_instance.specs.Job.{suppliers}
 use Rattle.tqd_instance.proofs.Jobs.{job_in_range}
-use Rattle.tqd_instance.proofs.SumLemmas.{sum_to-zero, sum_to-suc, sum_to-more, sum_to-longer, sum_to-bound}
+use Rattle.tqd_instance.proofs.SumLemmas.{sum_to-zero, sum_to-suc, sum_to-more, sum_to-longer}
 use Rattle.interval_box.specs.declared.boxes.IntervalBox.{IntervalBox}
-use Rattle.interval_box.specs.Ranges.{low_of, high_of, Admits, IsRangeOf, IsBoxOf}
+use Rattle.interval_box.specs.Ranges.{Admits, IsBoxOf}
 use Rattle.bound_tree.specs.Prices.{first_of, count_of, places_to, place_of}
 
 pub places_to-zero : (area : IntervalBox) → places_to area 0 ≡ 0

@@ -1,5 +1,5 @@
 -- Weak duality: no feasible purchase in a box costs less than the value of a row of prices.
-use Rattle.std.proofs.Common.{ℕ, suc, zero, ◌≡◌, ◌+◌, ◌-◌, ◌*◌, ◌<◌, ◌≤◌, ◌==◌, min, if◌then◌else◌, ℤ, pos, neg_ℤ, ◌+ℤ◌, ◌-ℤ◌, ◌≤ℤ◌, List, Option, Some, None, refl, ap, subst, sym, ◌∙◌, arith, inl, inr}
+use Rattle.std.proofs.Common.{ℕ, ◌≡◌, ◌+◌, ◌-◌, ◌*◌, ◌<◌, ◌≤◌, ◌==◌, if◌then◌else◌, ℤ, pos, neg_ℤ, ◌+ℤ◌, ◌-ℤ◌, ◌≤ℤ◌, List, Some, refl, ap, ◌∙◌, arith, inl, inr}
 use Rattle.std.specs.Prelude.{unwrap_or}
 use Rattle.std.specs.Int.{int_min}
 use Rattle.std.proofs.lemmas.Bool.{cases_lt}
@@ -10,7 +10,7 @@ use Rattle.std.proofs.Math.Nat.{mul-add}
 use borrow.Author.Differences.{up, down}
 use Rattle.tqd_instance.specs.declared.job.Job.{Job}
 use Rattle.tqd_instance.specs.Sum.{sum_to}
-use Rattle.tqd_instance.specs.Job.{goods, suppliers, need, most, stock, low, high, pick}
+use Rattle.tqd_instance.specs.Job.{goods, suppliers, need, most, low, high, pick}
 use Rattle.tqd_instance.specs.Purchase.{Purchase, total, bought}
 use Rattle.tqd_instance.specs.Feasible.{Feasible}
 use Rattle.tqd_instance.specs.InRange.{IsSupplierInRange}
@@ -20,9 +20,8 @@ use Rattle.tqd_instance.proofs.Jobs.{job_in_range}
 use Rattle.tqd_instance.proofs.Picks.{picks_where_it_lies}
 use Rattle.tqd_instance.proofs.SumLemmas.{sum_to-add, sum_to-mul, sum_to-same, sum_to-none, sum_to-zeros, sum_to-swap, sum_to-term}
 use Rattle.interval_box.specs.declared.boxes.IntervalBox.{IntervalBox}
-use Rattle.interval_box.specs.Ranges.{low_of, high_of, Admits, IsIn}
-use Rattle.interval_box.proofs.Picked.{Picked, picked}
-use Rattle.bound_tree.specs.Sums.{signed_sum_to, least_from}
+use Rattle.interval_box.specs.Ranges.{low_of, high_of, IsIn}
+use Rattle.interval_box.proofs.Picked.{picked}
 use Rattle.bound_tree.specs.Prices.{Prices, price_at, segment_price}
 use Rattle.bound_tree.specs.Value.{Charges, charges_of, no_charges, cap, least_times, least_gain, segment_value, supplier_value, goods_value, value_by}
 use Rattle.bound_tree.proofs.Signed.{least_times-le, least_gain-is}

@@ -1,5 +1,5 @@
 -- The halves of a box are parts of it.
-use Rattle.std.proofs.Common.{ℕ, ◌≡◌, ◌+◌, ◌<◌, ◌≤◌, ap, arith, inl, inr}
+use Rattle.std.proofs.Common.{ℕ, ap, arith, inl, inr}
 use Rattle.std.proofs.lemmas.Bool.{cases_eq}
 use Rattle.tqd_instance.specs.declared.job.Job.{Job}
 use Rattle.interval_box.specs.declared.boxes.IntervalBox.{IntervalBox}

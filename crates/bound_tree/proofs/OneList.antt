@@ -1,12 +1,12 @@
 -- A row's prices as one list.
-use Rattle.std.proofs.Common.{ℕ, ◌≡◌, ◌+◌, ◌-◌, ◌≤◌, ◌↔◌, ℤ, List, ◌++◌, length, take, drop, ap, subst, arith, length-append, length-drop}
+use Rattle.std.proofs.Common.{◌↔◌, ℤ, List, length, take, drop, ap, subst, arith, length-append, length-drop}
 use Rattle.std.specs.List.{All}
 use Rattle.std.proofs.lemmas.List.{length-take, take-append-drop}
 use Rattle.std.proofs.lemmas.List.Elements.{All-append, All-take, All-drop}
 use Rattle.tqd_instance.specs.declared.job.Job.{Job}
-use Rattle.tqd_instance.specs.Job.{goods, suppliers}
+use Rattle.tqd_instance.specs.Job.{goods}
 use Rattle.interval_box.specs.declared.boxes.IntervalBox.{IntervalBox}
-use Rattle.bound_tree.specs.Prices.{places_to, IsPrice, Fits, row_of, AreFitting}
+use Rattle.bound_tree.specs.Prices.{IsPrice, Fits, row_of, AreFitting}
 
 fits : (job : Job) (area : IntervalBox) (prices : List ℤ) → AreFitting job area prices → Fits job area (row_of job prices)
 unfolding row_of

@@ -1,5 +1,5 @@
 -- The prices of a list that are within the limit, and what the code reads of them.
-use Rattle.std.proofs.Common.{ℕ, ◌≡◌, ◌*◌, ◌<◌, ◌≤◌, min, ℤ, pos, neg_ℤ, ◌-ℤ◌, ◌≤ℤ◌, List, length, get_or, arith, inl, inr, refl, ap, ◌∙◌}
+use Rattle.std.proofs.Common.{ℕ, ◌≡◌, ◌*◌, min, ℤ, pos, neg_ℤ, ◌-ℤ◌, List, length, get_or, arith, inl, inr, refl}
 use Rattle.std.specs.List.{All}
 use Rattle.std.specs.Int.{int_min}
 use Rattle.std.proofs.lemmas.Bool.{cases_lt}

@@ -1,5 +1,5 @@
 -- What a segment's value is, in segment 0 and in every other.
-use Rattle.std.proofs.Common.{ℕ, ◌≡◌, ◌<◌, ◌≤◌, ◌==◌, ◌+◌, ◌-◌, max, if◌then◌else◌, ℤ, pos, ◌+ℤ◌, List, refl, sym, ◌∙◌, arith}
+use Rattle.std.proofs.Common.{ℕ, ◌≡◌, ◌≤◌, ◌==◌, ◌+◌, ◌-◌, max, if◌then◌else◌, ℤ, pos, ◌+ℤ◌, List, refl, sym, ◌∙◌, arith}
 use Rattle.std.specs.Int.{int_min}
 use Rattle.std.proofs.lemmas.Bool.Decides.{nat_tests}
 use Rattle.tqd_instance.specs.declared.job.Job.{Job}

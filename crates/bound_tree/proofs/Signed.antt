@@ -1,9 +1,8 @@
 -- Signed numbers as differences of natural ones, their products, and what the code computes of them.
-use Rattle.std.proofs.Common.{ℕ, suc, zero, ◌≡◌, ◌+◌, ◌-◌, ◌*◌, ◌^◌, ◌<◌, ◌≤◌, ℤ, pos, negsuc, neg_ℤ, ◌+ℤ◌, ◌-ℤ◌, ◌*ℤ◌, ◌≤ℤ◌, ◌<ℤ◌, int_lt, if◌then◌else◌, true, false, refl, ap, sym, ◌∙◌, arith, inl, inr}
+use Rattle.std.proofs.Common.{ℕ, suc, zero, ◌≡◌, ◌*◌, ◌^◌, ◌<◌, ◌≤◌, ℤ, pos, negsuc, neg_ℤ, ◌+ℤ◌, ◌-ℤ◌, ◌*ℤ◌, ◌≤ℤ◌, int_lt, if◌then◌else◌, false, ◌∙◌, arith}
 use Rattle.std.specs.Int.{int_min, int_max}
-use Rattle.std.specs.Int.RustNames.{unsigned_abs, FitsSigned}
-use Rattle.std.proofs.lemmas.Bool.{cases_lt}
-use Rattle.std.proofs.lemmas.Int.{ints, clamps, to_z-of_z, fits_signed_mul, int_min_is}
+use Rattle.std.specs.Int.RustNames.{unsigned_abs}
+use Rattle.std.proofs.lemmas.Int.{ints, clamps, to_z-of_z, fits_signed_mul}
 use Rattle.std.proofs.lemmas.Nat.{mul-le}
 use lib.IntN.{pos-*ℤ-pos, negsuc-*ℤ-pos, pos-*ℤ-negsuc}
 use borrow.Author.Differences.{up, down}

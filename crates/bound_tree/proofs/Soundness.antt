@@ -1,9 +1,8 @@
 -- A leaf that kills its box is sound.
-use Rattle.std.proofs.Common.{ℕ, ◌≤◌, ℤ, pos, ◌≤ℤ◌, Option, Some, None, arith}
+use Rattle.std.proofs.Common.{ℕ, pos, ◌≤ℤ◌, Option, Some, None, arith}
 use Rattle.std.specs.Prelude.{IsSomeAnd}
 use Rattle.std.proofs.lemmas.Int.{ints}
 use Rattle.tqd_instance.specs.declared.job.Job.{Job}
-use Rattle.tqd_instance.specs.Cost.{cost}
 use Rattle.interval_box.specs.declared.boxes.IntervalBox.{IntervalBox}
 use Rattle.interval_box.proofs.Winning.{none_feasible}
 use Rattle.bound_tree.specs.declared.leaf.Leaf.{Leaf}

@@ -1,5 +1,5 @@
 -- When a leaf of a tree shows that a box has no feasible purchase that costs less than the best one known.
-use Rattle.std.specs.Prelude.{ℕ, ◌≤◌, pos, ◌≤ℤ◌, ◌<ℤ◌, Option, None, Some, IsSomeAnd, IfSome}
+use Rattle.std.specs.Prelude.{ℕ, ◌≤◌, pos, ◌≤ℤ◌, ◌<ℤ◌, Option, IsSomeAnd}
 use Rattle.tqd_instance.specs.declared.job.Job.{Job}
 use Rattle.tqd_instance.specs.Purchase.{Purchase}
 use Rattle.tqd_instance.specs.Feasible.{Feasible}

@@ -1,4 +1,4 @@
-use Rattle.std.proofs.Common.{◌≡◌, ◌<◌, pos, take, slice_index_or, to_z, of_z, subst, refl, rules, arith}
+use Rattle.std.proofs.Common.{pos, slice_index_or, subst, refl, rules}
 use Rattle.std.specs.List.{All}
 use Rattle.std.proofs.lemmas.Int.{to_z-of_z}
 use Rattle.std.proofs.lemmas.List.{take_all}

@@ -1,5 +1,4 @@
-use Rattle.std.proofs.Common.{subst, sym, rules, arith}
-use Rattle.interval_box.specs.Ranges.{low_of, high_of}
+use Rattle.std.proofs.Common.{subst, sym, rules}
 use Rattle.interval_box.specs.Halves.{IsProper}
 use Rattle.bound_tree.specs.Narrowed.{IsPartOf}
 use Rattle.bound_tree.proofs.HalfParts.{are_parts}

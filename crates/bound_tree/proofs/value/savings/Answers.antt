@@ -1,4 +1,4 @@
-use Rattle.std.proofs.Common.{ℕ, ℤ, ap, ◌∙◌, ◌≡◌, ◌*◌, ◌≤◌, pos, neg_ℤ, refl, sym, arith}
+use Rattle.std.proofs.Common.{ℕ, ℤ, ap, ◌∙◌, ◌≡◌, ◌*◌, pos, neg_ℤ, refl, sym, arith}
 use Rattle.std.proofs.lemmas.Int.{ints, to_z-of_z}
 use Rattle.std.proofs.lemmas.Nat.{mul-le}
 use mir.Syntax.{w64}

@@ -1,4 +1,4 @@
-use Rattle.std.proofs.Common.{ℕ, ℤ, ◌≡◌, ◌≤◌, ◌∙◌, ap, sym, pos, neg_ℤ, arith}
+use Rattle.std.proofs.Common.{ℤ, ◌≡◌, ◌∙◌, ap, sym, pos, neg_ℤ, arith}
 use Rattle.std.proofs.lemmas.Int.{ints}
 use Rattle.tqd_instance.specs.Job.{goods, low, high, fee}
 use Rattle.bound_tree.specs.Sums.{signed_sum_to}

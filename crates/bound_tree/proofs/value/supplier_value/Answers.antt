@@ -1,7 +1,6 @@
-use Rattle.std.proofs.Common.{ℕ, ℤ, ◌≡◌, ◌+◌, ◌-◌, ◌<◌, ◌≤◌, ◌∙◌, ap, sym, refl, pos, to_z, of_z, arith}
+use Rattle.std.proofs.Common.{ℕ, ◌≡◌, ◌+◌, ◌-◌, ◌≤◌, ◌∙◌, ap, sym, arith}
 use Rattle.std.specs.Int.{int_min}
-use Rattle.std.proofs.lemmas.Int.{ints, clamps, to_z-of_z}
-use mir.Syntax.{w128}
+use Rattle.std.proofs.lemmas.Int.{ints, clamps}
 use Rattle.tqd_instance.proofs.Jobs.{job_in_range}
 use Rattle.interval_box.specs.Ranges.{low_of, high_of}
 use Rattle.bound_tree.specs.Sums.{least_from}
