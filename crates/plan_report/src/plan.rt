@@ -1,8 +1,7 @@
-ghost use Rattle.std.specs.Prelude.{◌≡◌, ◌<◌, ◌≤◌, ◌++◌, All, length, IfOk, OnOk, IsSome, Some};
+ghost use Rattle.std.specs.Prelude.{◌≡◌, ◌*◌, ◌<◌, ◌≤◌, ◌++◌, All, length, IfOk, OnOk, IsSome, Some};
 ghost use Rattle.tqd_base.specs.declared.limits.TheConstants.{GOODS_MAX, QTY_MAX, PRICE_MAX};
-ghost use Rattle.tqd_instance.specs.Job.{goods as job_goods, suppliers as job_suppliers, fee, pick, segments};
+ghost use Rattle.tqd_instance.specs.Job.{goods as job_goods, suppliers as job_suppliers, pick, segments};
 ghost use Rattle.tqd_instance.specs.Plan.{units, IsSizedFor};
-ghost use Rattle.tqd_instance.specs.Purchase.{total};
 ghost use Rattle.tqd_instance.specs.Feasible.{Feasible, HasPick};
 ghost use Rattle.tqd_instance.specs.Cost.{cost, goods_cost, selected};
 ghost use Rattle.plan_report.specs.Lines.{texts_to};
@@ -37,7 +36,8 @@ fn goods_cost(job: &Job, plan: &Plan, i: usize, segment: u8) -> u128
     requires some { 1 ≤ segment }
     requires segment { segment ≤ segments job.now i }
     requires selected { selected job.now (units plan.now) i ≡ segment }
-    ensures { result ≡ goods_cost job.now (units plan.now) i }
+    ensures value { result ≡ goods_cost job.now (units plan.now) i }
+    ensures within { result ≤ GOODS_MAX * (QTY_MAX * PRICE_MAX) }
 {
     let mut sum = 0;
     for k in 0..job.goods() {

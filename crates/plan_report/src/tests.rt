@@ -1,7 +1,10 @@
 ghost use Rattle.std.specs.Prelude.{IfOk};
 ghost use Rattle.tqd_instance.specs.Plan.{IsSizedFor};
 
-use crate::{FileFault, InputFile, fault_text, needs_text, plan_text, unread_text, usage_text};
+use crate::{
+    FileFault, InputFile, accepted_text, fault_text, infeasible_text, needs_text, plan_text,
+    summary_text, unread_text, usage_text,
+};
 use bom_explode::{ExplodeFault, explode};
 use bom_reader::{BillFault, NameList, no_bill, read_bill, read_orders};
 use csv_rows::RowFault;
@@ -412,6 +415,20 @@ fn faults_of_jobs(rt: HostRuntime) -> Result<(), Fail> {
         let printed = fault_text(alloc, &FileFault::Job(fault), &names, &[1, 2], &suppliers)?;
         assert_eq!(rt; printed.as_slice(), text.as_bytes());
     }
+    Ok(())
+}
+
+#[test]
+fn answers_of_one_line(rt: HostRuntime) -> Result<(), Fail> {
+    let alloc = rt.alloc();
+    let none = infeasible_text(alloc)?;
+    assert_eq!(rt; none.as_slice(), b"infeasible\n".as_slice());
+    let yes = accepted_text(alloc, Some(8_000_000))?;
+    assert_eq!(rt; yes.as_slice(), b"accepted\t8.000000\n".as_slice());
+    let no_purchase = accepted_text(alloc, None)?;
+    assert_eq!(rt; no_purchase.as_slice(), b"accepted\tnone\n".as_slice());
+    let made = summary_text(alloc, 1, 2, 3, 1_410_728_160)?;
+    assert_eq!(rt; made.as_slice(), b"made\t1\t2\t3\t1410.728160\n".as_slice());
     Ok(())
 }
 
