@@ -38,6 +38,7 @@ price_at prices at = slice_index_or prices at (pos 0)
 unfoldable pub segment_price : IntervalBox → Prices → ℕ → ℕ → ℤ
 segment_price area row i j = price_at row.places (place_of area i j)
 
+-- a price within the limit of prices in rows
 pub record IsPrice (price : ℤ) : Type 0 where
   pub not_less : neg_ℤ DUAL_MAX ≤ℤ price
   pub not_more : price ≤ℤ DUAL_MAX

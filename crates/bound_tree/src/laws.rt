@@ -35,8 +35,8 @@ pub fn no_purchase_has_a_free_value_above_zero()
         → Feasible job x → IsIn job area x → free_value job area row ≤ℤ pos 0 }
 {}
 
-/// A leaf that kills a box against a cost shows that no feasible purchase in the box costs less, where it is a bound, and
-/// else that no purchase in it is feasible.
+/// A leaf that kills a box against a cost shows that no feasible purchase in the box costs less, where it is a bound,
+/// and else that no purchase in it is feasible.
 pub fn killing_leaves_are_sound()
     ensures { (job : Job) (area : IntervalBox) (best : Option ℕ) (leaf : Leaf)
         → Kills job area best leaf → Shows job area best leaf }

@@ -1,7 +1,7 @@
 //! Rows of prices that prove a bound for the purchases in a box, and the leaves of the trees that certify an answer.
 //!
-//! `specs/` says what a row of a box is (`Prices`), what its value is (`Value`), what its prices on a part of the box are
-//! (`Narrowed`), and when a leaf kills its box (`Kills`). The value is a sum that needs no flow: it is weak duality,
+//! `specs/` says what a row of a box is (`Prices`), what its value is (`Value`), what its prices on a part of the box
+//! are (`Narrowed`), and when a leaf kills its box (`Kills`). The value is a sum that needs no flow: it is weak duality,
 //! interval by interval.
 //!
 //! `Row::value` and `Row::value_free`, and `value_in` and `value_free_in` for prices in a slice, compute these words in

@@ -33,8 +33,8 @@ pub fn place_count(job: &Job, area: &IntervalBox) -> usize
     sum
 }
 
-/// Whether prices in one list, those of the goods first, are a row that fits a box, for callers that do not know it: there
-/// is one for each good and each place, and each is in range.
+/// Whether prices in one list, those of the goods first, are a row that fits a box, for callers that do not know it:
+/// there is one for each good and each place, and each is in range.
 pub fn prices_fit(job: &Job, area: &IntervalBox, prices: &[i64]) -> bool
     requires { IsBoxOf job.now area.now }
     ensures { IsTrue result ↔ AreFitting job.now area.now prices.now }

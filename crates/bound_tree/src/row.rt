@@ -47,7 +47,7 @@ impl Row {
         })
     }
 
-    /// The price of a good.
+    /// The price of a good, in millionths of the currency a unit.
     #[tactic(auto, unfolding(crate::specs::Prices::price_at))]
     pub fn good(&self, k: usize) -> i64
         requires { k < length self.now.goods }
@@ -56,7 +56,7 @@ impl Row {
         self.goods[k]
     }
 
-    /// The price at a place of the box.
+    /// The price at a place of the box, in millionths of the currency a unit of the total.
     #[tactic(auto, unfolding(crate::specs::Prices::price_at))]
     pub fn place(&self, at: usize) -> i64
         requires { at < length self.now.places }
@@ -65,7 +65,8 @@ impl Row {
         self.places[at]
     }
 
-    /// The value of the row in its box, within 10^30 of 0: no feasible purchase in the box costs less.
+    /// The value of the row in its box, in millionths of the currency and within 10^30 of 0: no feasible purchase in the
+    /// box costs less.
     pub fn value(&self, job: &Job, area: &IntervalBox) -> i128
         requires of_job { IsBoxOf job.now area.now }
         requires fits { Fits job.now area.now self.now }

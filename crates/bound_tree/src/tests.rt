@@ -1,6 +1,6 @@
-ghost use Rattle.std.specs.Prelude.{◌≡◌, IfOk};
+ghost use Rattle.std.specs.Prelude.{IfOk};
 ghost use Rattle.interval_box.specs.Ranges.{IsBoxOf};
-ghost use Rattle.bound_tree.specs.Prices.{Fits, row_of};
+ghost use Rattle.bound_tree.specs.Prices.{Fits};
 
 use crate::{Leaf, Row, TreeNode, laws, place_count, prices_fit, value_free_in, value_in};
 use interval_box::IntervalBox;

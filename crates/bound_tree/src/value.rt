@@ -1,11 +1,11 @@
-ghost use Rattle.std.specs.Prelude.{◌≡◌, ℕ, ◌+◌, ◌-◌, ◌*◌, ◌^◌, ◌<◌, ◌≤◌, ◌≤ℤ◌, ◌-ℤ◌, neg_ℤ, pos, length};
+ghost use Rattle.std.specs.Prelude.{◌≡◌, ◌+◌, ◌-◌, ◌*◌, ◌^◌, ◌<◌, ◌≤◌, ◌≤ℤ◌, ◌-ℤ◌, neg_ℤ, pos, length};
 ghost use Rattle.std.specs.List.{All};
 ghost use Rattle.std.specs.Int.{int_min};
 ghost use Rattle.tqd_base.specs.declared.limits.TheConstants.{PRICE_MAX, QTY_MAX, SUPPLIERS_MAX};
 ghost use Rattle.tqd_instance.specs.Job.{goods, suppliers, segments};
-ghost use Rattle.interval_box.specs.Ranges.{low_of, high_of, IsBoxOf, IsRangeOf, Admits};
+ghost use Rattle.interval_box.specs.Ranges.{IsBoxOf, IsRangeOf};
 ghost use Rattle.bound_tree.specs.Sums.{signed_sum_to};
-ghost use Rattle.bound_tree.specs.Prices.{first_of, count_of, places_to, price_at, segment_price, IsPrice, Fits, row_of};
+ghost use Rattle.bound_tree.specs.Prices.{first_of, count_of, price_at, segment_price, IsPrice, Fits, row_of};
 ghost use Rattle.bound_tree.specs.Value.{
   cap,
   least_times,
@@ -23,7 +23,7 @@ use crate::places::count_of;
 use interval_box::IntervalBox;
 use tqd_instance::Job;
 
-/// Whether the prices and fees of the job are asked, or nothing.
+/// Whether the prices and fees of the job are asked, as in a value, or nothing, as in a free value.
 #[derive(Clone, Copy)]
 pub(crate) enum Asked {
     All,
@@ -211,7 +211,8 @@ pub(crate) fn value_by(
     goods_value(job, good_prices) + suppliers_value(job, area, good_prices, place_prices, asked)
 }
 
-/// The value of the row of these prices, those of the goods first, then those of the places of the box.
+/// The value of the row of these prices, in millionths of the currency and within 10^30 of 0: no feasible purchase in the
+/// box costs less. The prices of the goods stand first, then those of the places of the box.
 #[tactic(auto, unfolding(crate::specs::Prices::row_of))]
 pub fn value_in(job: &Job, area: &IntervalBox, prices: &[i64]) -> i128
     requires of_job { IsBoxOf job.now area.now }
@@ -224,7 +225,8 @@ pub fn value_in(job: &Job, area: &IntervalBox, prices: &[i64]) -> i128
     value_by(job, area, good_prices, place_prices, Asked::All)
 }
 
-/// The free value of that row: with every price and every fee of the job taken as 0.
+/// The free value of that row, with every price and every fee of the job taken as 0: where it is above 0, no purchase in
+/// the box is feasible.
 #[tactic(auto, unfolding(crate::specs::Prices::row_of))]
 pub fn value_free_in(job: &Job, area: &IntervalBox, prices: &[i64]) -> i128
     requires of_job { IsBoxOf job.now area.now }
