@@ -1,17 +1,14 @@
 -- The answer of an explosion is the only one.
-use Rattle.std.proofs.Common.{◌≡◌, ℕ, zero, suc, ◌+◌, ◌<◌, ◌≤◌, ◌≢◌, List, length, get_or, Ok, Err, Result, refl, sym, ap, ◌∙◌, ⊎_elim, arith}
+use Rattle.std.proofs.Common.{◌≡◌, ℕ, zero, suc, ◌+◌, ◌<◌, ◌≤◌, List, length, get_or, Ok, Err, refl, sym, ap, ◌∙◌, ⊎_elim, arith}
 use Rattle.std.proofs.lemmas.Bool.{cases_lt}
 use Rattle.std.proofs.lemmas.Grind.{same_number_lists}
 use Rattle.std.specs.List.Sorted.{IsStrictlyIncreasing}
-use Rattle.tqd_base.specs.declared.memory.Stop.{Stop}
 use Rattle.tqd_base.specs.declared.memory.Stop.TheVariants.{Refused, Memory}
-use Rattle.bom_explode.specs.declared.fault.ExplodeFault.{ExplodeFault}
 use Rattle.bom_explode.specs.declared.fault.ExplodeFault.TheVariants.{Circle, NeedRange}
 use Rattle.bom_explode.specs.Structure.{Structure, IsStructure}
-use Rattle.bom_explode.specs.Below.{IsLeastOnCircle}
-use Rattle.bom_explode.specs.Needs.{IsGood, AreGoods, Needed, IsLeastAbove}
+use Rattle.bom_explode.specs.Needs.{IsGood, AreGoods, Needed}
 use Rattle.bom_explode.specs.Search.{IsOn}
-use Rattle.bom_explode.specs.Explosion.{IsTooMuch, IsExploded, Explodes}
+use Rattle.bom_explode.specs.Explosion.{IsTooMuch, IsExploded}
 use Rattle.bom_explode.specs.Laws.{AnswersAgree}
 use Rattle.bom_explode.proofs.Climbing.{needs_agree}
 use Rattle.bom_explode.proofs.Collecting.{rising_pairs}
@@ -52,7 +49,6 @@ same_rising g h rg rh on back =
 
 -- goods by needs that are the same at all names
 module _ (s : Structure) (x y : ℕ → ℕ) (same : (n : ℕ) → n < s.names → x n ≡ y n) where
-
   IsGood-same : (n : ℕ) → IsGood s x n → IsGood s y n
   IsGood-same n g = record { inside = g.inside; bought = g.bought; needed = omega (arith, same n g.inside, g.needed) }
 
@@ -87,8 +83,11 @@ same_exploded s ok a b p q =
 same_too_much : (s : Structure) → IsStructure s → (m n : ℕ) → IsTooMuch s m → IsTooMuch s n → m ≡ n
 same_too_much s ok m n p q =
     let same = needs_agree s ok p.no_circle p.need q.need p.solves q.solves in
-    omega (arith, p.above.least n q.above.inside (omega (arith, same n q.above.inside, q.above.above)),
-    q.above.least m p.above.inside (omega (arith, same m p.above.inside, p.above.above)))
+    omega (
+      arith,
+      p.above.least n q.above.inside (omega (arith, same n q.above.inside, q.above.above)),
+      q.above.least m p.above.inside (omega (arith, same m p.above.inside, p.above.above)),
+    )
 
 not_both : (s : Structure) → IsStructure s → (a : Needed) (n : ℕ) → IsExploded s a → IsTooMuch s n → ⊥
 not_both s ok a n p q =

@@ -11,6 +11,8 @@ mod needs;
 mod order;
 mod search;
 mod structure;
+#[cfg(test)]
+mod tests;
 
 pub use explosion::explode;
 pub use fault::ExplodeFault;

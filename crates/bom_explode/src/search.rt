@@ -2,7 +2,8 @@
 //! search and linear graph algorithms, SIAM Journal on Computing, 1972).
 
 ghost use Rattle.std.specs.Prelude.{◌≡◌, ℕ, ◌<◌, ◌≤◌, [], ◌∷◌, ◌++◌, length, slice_index, slice_set, IfOk, OnOk, MatchOption};
-ghost use Rattle.bom_explode.specs.Structure.{structure_of, along, IsStructure};
+ghost use Rattle.bom_explode.specs.Structure.{structure_of, IsStructure};
+ghost use Rattle.bom_explode.specs.Ways.{along};
 ghost use Rattle.bom_explode.specs.Chains.{AreChains};
 ghost use Rattle.bom_explode.specs.Search.{Searches, IsTop, IsIdle, IsGrown, IsVisited, KeepsGrown, steps_left};
 

@@ -1,5 +1,6 @@
 use Rattle.std.proofs.Common.{◌≡◌, rules}
-use Rattle.bom_explode.specs.Structure.{structure_of, along}
+use Rattle.bom_explode.specs.Structure.{structure_of}
+use Rattle.bom_explode.specs.Ways.{along}
 use Rattle.bom_explode.proofs.Structures.{IsStructure-along}
 use Rattle.bom_explode.proofs.Searching.{IsSearch-leave, front_of}
 use Rattle.bom_explode.proofs.search.Search.leave.Goals as goal
