@@ -4,7 +4,8 @@ use Rattle.std.proofs.lemmas.Bool.{cases_lt, cases_eq, eq-eqb, ne_eqb}
 use Rattle.std.proofs.lemmas.List.{length-set}
 use Rattle.bom_explode.specs.declared.amounts.TheConstants.{TOO_MANY}
 use Rattle.bom_explode.specs.declared.structure.Way.TheVariants.{Up}
-use Rattle.bom_explode.specs.Structure.{Structure, IsStructure, along}
+use Rattle.bom_explode.specs.Structure.{Structure, IsStructure}
+use Rattle.bom_explode.specs.Ways.{along}
 use Rattle.bom_explode.specs.Below.{HasNoCircle}
 use Rattle.bom_explode.specs.Chains.{AreChains}
 use Rattle.bom_explode.specs.Sum.{sum_to}

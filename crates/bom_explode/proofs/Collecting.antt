@@ -6,7 +6,8 @@ use Rattle.std.proofs.lemmas.Map.Keys.{sorted_from_strictly_increasing, below_fr
 use Rattle.std.specs.List.Sorted.{IsStrictlyIncreasing}
 use Rattle.tqd_base.specs.declared.limits.TheConstants.{QTY_MAX}
 use Rattle.bom_explode.specs.declared.structure.Way.TheVariants.{Down}
-use Rattle.bom_explode.specs.Structure.{Structure, IsStructure, along}
+use Rattle.bom_explode.specs.Structure.{Structure, IsStructure}
+use Rattle.bom_explode.specs.Ways.{along}
 use Rattle.bom_explode.specs.Chains.{AreChains}
 use Rattle.bom_explode.specs.Needs.{IsGood, AreGoods, IsNeeded}
 use Rattle.bom_explode.specs.Search.{IsOn}

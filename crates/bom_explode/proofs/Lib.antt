@@ -7,3 +7,4 @@ pub mod Searching
 pub mod Ordering
 pub mod Amounting
 pub mod Collecting
+pub mod Agreeing

@@ -4,7 +4,8 @@ use Rattle.std.proofs.lemmas.Bool.{cases_lt, cases_eq}
 use Rattle.bom_explode.specs.declared.search.Search.{Search}
 use Rattle.bom_explode.specs.declared.search.TheConstants.{UNFOUND}
 use Rattle.bom_explode.specs.declared.structure.Way.TheVariants.{Up}
-use Rattle.bom_explode.specs.Structure.{Structure, IsStructure, along}
+use Rattle.bom_explode.specs.Structure.{Structure, IsStructure}
+use Rattle.bom_explode.specs.Ways.{along}
 use Rattle.bom_explode.specs.Below.{Leads, IsBelow, by_line, by_chain, HasNoCircle}
 use Rattle.bom_explode.specs.Search.{IsOn, IsMarked, IsIdle, IsFound, at_root, by_next, IsGrown, IsVisited}
 use Rattle.bom_explode.specs.Order.{IsOrder, IsAtOrBelow, IsMember, AreGathered, AreComponents}

@@ -206,9 +206,6 @@ sum-follow s first next cursor n c d ch h b ce p de =
 
 -- a name is left
 
-pub front_of : (xs ys front : List ℕ) (n : ℕ) → xs ≡ front ++ n ∷ [] → ys ≡ take (length xs - 1) xs → ys ≡ front
-front_of xs ys front n e f = f ∙ rw e (take_at front (n ∷ []) (length (front ++ n ∷ []) - 1) (grind (arith, common_steps)))
-
 IsOn-front : (xs : List ℕ) (x n : ℕ) → IsOn (xs ++ x ∷ []) n → IsOn xs n ⊎ (n ≡ x)
 IsOn-front xs x n (k, b, e) = ⊎_elim
     (λ (z : k < length xs). inl (k, z, sym (push_old xs x k z) ∙ e))

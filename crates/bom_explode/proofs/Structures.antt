@@ -7,7 +7,8 @@ use Rattle.bom_reader.specs.Bill.{BillData, IsBill, IsLine}
 use Rattle.bom_reader.specs.declared.line.Line.{Line}
 use Rattle.bom_explode.specs.declared.structure.Way.{Way}
 use Rattle.bom_explode.specs.declared.structure.Way.TheVariants.{Down, Up}
-use Rattle.bom_explode.specs.Structure.{Structure, IsStructure, line_at, structure_of, along}
+use Rattle.bom_explode.specs.Structure.{Structure, IsStructure, line_at, structure_of}
+use Rattle.bom_explode.specs.Ways.{along}
 
 pub names-structure_of : (bill : BillData) → (structure_of bill).names ≡ length bill.names
 unfolding structure_of

@@ -1,4 +1,5 @@
 pub mod Structure
+pub mod Ways
 pub mod Below
 pub mod Chains
 pub mod Sum

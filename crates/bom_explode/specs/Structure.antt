@@ -3,8 +3,6 @@ use Rattle.std.specs.Prelude.{ℕ, ◌<◌, ◌≤◌, length, slice_index, slic
 use Rattle.tqd_base.specs.declared.limits.TheConstants.{QTY_MAX, NAMES_MAX, LINES_MAX}
 use Rattle.bom_reader.specs.Bill.{BillData}
 use Rattle.bom_reader.specs.declared.line.Line.{Line}
-use Rattle.bom_explode.specs.declared.structure.Way.{Way}
-use Rattle.bom_explode.specs.declared.structure.Way.TheVariants.{Down, Up}
 
 -- names and lines are numbered from 0. Of name n, `ordered n` units are ordered. By line l, each unit of the name
 -- `assembly l` takes `quantity l` units of the name `part l`
@@ -29,19 +27,6 @@ structure_of bill = record {
   part = λ l. (line_at bill l).part;
   quantity = λ l. (line_at bill l).quantity;
 }
-
--- the name where a line starts, and the name where it finishes
-abbrev pub start_of : Way → Structure → ℕ → ℕ
-start_of Down s = s.assembly
-start_of Up s = s.part
-
-abbrev pub finish_of : Way → Structure → ℕ → ℕ
-finish_of Down s = s.part
-finish_of Up s = s.assembly
-
--- the same lines, read from assemblies down to parts, or from parts up to assemblies
-abbrev pub along : Way → Structure → Structure
-along way s = record s { assembly = start_of way s; part = finish_of way s }
 
 -- the ends of each line are names, and all quantities are in their ranges
 pub record IsStructure (s : Structure) : Type 0 where

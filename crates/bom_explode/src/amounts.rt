@@ -1,6 +1,7 @@
 ghost use Rattle.std.specs.Prelude.{◌≡◌, ℕ, ◌<◌, ◌≤◌, min, length, slice_index, IfOk, MatchOption};
 ghost use Rattle.tqd_base.specs.declared.limits.TheConstants.{QTY_MAX};
-ghost use Rattle.bom_explode.specs.Structure.{structure_of, along, IsStructure};
+ghost use Rattle.bom_explode.specs.Structure.{structure_of, IsStructure};
+ghost use Rattle.bom_explode.specs.Ways.{along};
 ghost use Rattle.bom_explode.specs.Below.{HasNoCircle};
 ghost use Rattle.bom_explode.specs.Chains.{AreChains};
 ghost use Rattle.bom_explode.specs.Needs.{demand, IsLeastAbove};

@@ -1,5 +1,6 @@
 ghost use Rattle.std.specs.Prelude.{IfOk};
-ghost use Rattle.bom_explode.specs.Structure.{structure_of, along, IsStructure};
+ghost use Rattle.bom_explode.specs.Structure.{structure_of, IsStructure};
+ghost use Rattle.bom_explode.specs.Ways.{along};
 ghost use Rattle.bom_explode.specs.Chains.{AreChains};
 
 use crate::structure::{Way, ends, lines, names};

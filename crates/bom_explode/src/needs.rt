@@ -27,7 +27,8 @@ impl Model for Needs {
 impl Needs {
     ghost use Rattle.std.specs.Prelude.{◌≡◌, ◌≢◌, ◌↔◌, ◌<◌, ◌≤◌, ℕ, length, slice_index, IfOk, IsTrue, MatchOption};
     ghost use Rattle.tqd_base.specs.declared.limits.TheConstants.{QTY_MAX};
-    ghost use Rattle.bom_explode.specs.Structure.{structure_of, along, IsStructure};
+    ghost use Rattle.bom_explode.specs.Structure.{structure_of, IsStructure};
+    ghost use Rattle.bom_explode.specs.Ways.{along};
     ghost use Rattle.bom_explode.specs.Chains.{AreChains};
     ghost use Rattle.bom_explode.specs.Needs.{IsNeeded, IsGood, AreGoods};
     ghost use Rattle.bom_explode.specs.Solution.{need_of, AreCapped};

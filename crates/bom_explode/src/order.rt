@@ -1,5 +1,6 @@
 ghost use Rattle.std.specs.Prelude.{IfOk};
-ghost use Rattle.bom_explode.specs.Structure.{structure_of, along};
+ghost use Rattle.bom_explode.specs.Structure.{structure_of};
+ghost use Rattle.bom_explode.specs.Ways.{along};
 ghost use Rattle.bom_explode.specs.Chains.{AreChains};
 ghost use Rattle.bom_explode.specs.Order.{IsOrder, AreComponents};
 ghost use Rattle.bom_explode.specs.declared.structure.Way.TheVariants.{Down, Up};

@@ -2,7 +2,8 @@
 //! search and linear graph algorithms, SIAM Journal on Computing, 1972).
 
 ghost use Rattle.std.specs.Prelude.{◌≡◌, ℕ, ◌<◌, ◌≤◌, [], ◌∷◌, ◌++◌, length, slice_index, slice_set, IfOk, OnOk, MatchOption};
-ghost use Rattle.bom_explode.specs.Structure.{structure_of, along, IsStructure};
+ghost use Rattle.bom_explode.specs.Structure.{structure_of, IsStructure};
+ghost use Rattle.bom_explode.specs.Ways.{along};
 ghost use Rattle.bom_explode.specs.Chains.{AreChains};
 ghost use Rattle.bom_explode.specs.Search.{Searches, IsTop, IsIdle, IsGrown, IsVisited, KeepsGrown, steps_left};
 
@@ -68,15 +69,13 @@ impl Search {
         Ok(())
     }
 
-    /// Leaves the last name on the path, all of whose lines were followed.
-    fn leave(&mut self, bill: &Bill, way: Way, n: u32, mark: usize) -> Result<(), Memory>
-        requires kept { IsStructure (structure_of bill.now) }
-        requires searches { Searches (along way (structure_of bill.now)) self.old }
-        requires top { IsTop self.old.path.items n }
-        requires done { slice_index self.old.cursor.items n ≡ 0 }
-        ensures searches { OnOk result (Searches (along way (structure_of bill.now)) self.new) }
-        ensures grown { OnOk result (KeepsGrown (along way (structure_of bill.now)) mark self.old self.new) }
-        ensures nearer { OnOk result (steps_left self.new < steps_left self.old) }
+    /// Leaves the last name on the path.
+    fn leave(&mut self, n: u32) -> Result<(), Memory>
+        requires { IsTop self.old.path.items n }
+        ensures cursor { self.new.cursor.items ≡ self.old.cursor.items }
+        ensures mark { self.new.mark.items ≡ self.old.mark.items }
+        ensures path { self.old.path.items ≡ self.new.path.items ++ n ∷ [] }
+        ensures left { OnOk result (self.new.left.items ≡ self.old.left.items ++ n ∷ []) }
     {
         self.path.pop();
         self.left.push(n)?;
@@ -132,7 +131,7 @@ impl Search {
         if self.cursor[n as usize] > 0 {
             self.follow(bill, way, chains, n, mark)
         } else {
-            self.leave(bill, way, n, mark)
+            self.leave(n)
         }
     }
 

@@ -1,6 +1,7 @@
 ghost use Rattle.std.specs.Prelude.{◌≡◌, ◌<◌, ◌≤◌};
 ghost use Rattle.tqd_base.specs.declared.limits.TheConstants.{QTY_MAX};
-ghost use Rattle.bom_explode.specs.Structure.{structure_of, start_of, finish_of, IsStructure};
+ghost use Rattle.bom_explode.specs.Structure.{structure_of, IsStructure};
+ghost use Rattle.bom_explode.specs.Ways.{start_of, finish_of};
 
 use bom_reader::Bill;
 

@@ -1,4 +1,5 @@
-use Rattle.bom_explode.specs.Structure.{structure_of, along, IsStructure}
+use Rattle.bom_explode.specs.Structure.{structure_of, IsStructure}
+use Rattle.bom_explode.specs.Ways.{along}
 use Rattle.bom_explode.specs.Search.{IsIdle}
 use Rattle.bom_explode.specs.Order.{AreGathered}
 use Rattle.bom_explode.specs.declared.structure.Way.TheVariants.{Up}

@@ -1,5 +1,6 @@
 use Rattle.std.proofs.Common.{arith}
-use Rattle.bom_explode.specs.Structure.{structure_of, along}
+use Rattle.bom_explode.specs.Structure.{structure_of}
+use Rattle.bom_explode.specs.Ways.{along}
 use Rattle.bom_explode.specs.declared.structure.Way.TheVariants.{Down}
 use Rattle.bom_explode.proofs.Ordering.{IsOrder-idle}
 use Rattle.bom_explode.proofs.order.leaving_order.Goals as goal

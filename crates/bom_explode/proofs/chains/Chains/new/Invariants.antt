@@ -1,5 +1,6 @@
 use Rattle.std.proofs.Common.{◌≡◌}
-use Rattle.bom_explode.specs.Structure.{structure_of, along, IsStructure}
+use Rattle.bom_explode.specs.Structure.{structure_of, IsStructure}
+use Rattle.bom_explode.specs.Ways.{along}
 use Rattle.bom_explode.specs.Chains.{AreChainsTo}
 use Rattle.bom_explode.proofs.chains.Chains.new.Given as goal
 

@@ -1,6 +1,7 @@
 use Rattle.std.proofs.Common.{◌≡◌, replicate, rules, ◌∙◌}
 use Rattle.bom_explode.specs.declared.search.TheConstants.{UNFOUND}
-use Rattle.bom_explode.specs.Structure.{structure_of, along}
+use Rattle.bom_explode.specs.Structure.{structure_of}
+use Rattle.bom_explode.specs.Ways.{along}
 use Rattle.bom_explode.proofs.Structures.{IsStructure-along}
 use Rattle.bom_explode.proofs.Searching.{IsSearch-start}
 use Rattle.bom_explode.proofs.search.Search.new.Goals as goal

@@ -1,5 +1,6 @@
 use Rattle.std.proofs.Common.{◌≡◌, ◌++◌, ◌∷◌, [], length, arith, ap, ◌∙◌}
-use Rattle.bom_explode.specs.Structure.{structure_of, along}
+use Rattle.bom_explode.specs.Structure.{structure_of}
+use Rattle.bom_explode.specs.Ways.{along}
 use Rattle.bom_explode.proofs.Searching.{IsSearch-enter, IsGrown-start}
 use Rattle.bom_explode.proofs.search.Search.run.Goals as goal
 

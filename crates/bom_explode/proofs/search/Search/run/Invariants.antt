@@ -1,4 +1,5 @@
-use Rattle.bom_explode.specs.Structure.{structure_of, along}
+use Rattle.bom_explode.specs.Structure.{structure_of}
+use Rattle.bom_explode.specs.Ways.{along}
 use Rattle.bom_explode.specs.Search.{Searches, IsGrown, steps_left}
 use Rattle.bom_explode.proofs.search.Search.run.Given as goal
 
