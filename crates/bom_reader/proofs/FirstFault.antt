@@ -1,7 +1,7 @@
 -- The first fault of rows: where there is none, and where it stands.
-use Rattle.std.proofs.Common.{◌≡◌, ℕ, zero, suc, ◌+◌, ◌<◌, Bool, true, false, List, [], ◌∷◌, ◌++◌, length, get_or, take, drop, Option, None, Some, Result, Ok, Err, refl, sym, ap, ◌∙◌, append_assoc, add-one, arith, drop-cons}
+use Rattle.std.proofs.Common.{◌≡◌, ℕ, zero, suc, ◌+◌, ◌<◌, Bool, true, false, List, [], ◌∷◌, ◌++◌, length, get_or, take, drop, Option, None, Some, Ok, Err, refl, sym, ap, ◌∙◌, ◌⊎◌, inl, inr, append_assoc, arith, drop-cons}
 use Rattle.std.proofs.lemmas.List.{append-nil, take_more, take-append-drop}
-use Rattle.std.proofs.lemmas.Option.{none-some}
+use Rattle.std.proofs.lemmas.Option.{none-some, same_Some}
 use Rattle.std.specs.Option.{option_or}
 use Rattle.bom_reader.specs.Faults.{fault_if, first_fault, unless}
 
@@ -54,3 +54,38 @@ unless-value (Some f) v w e = cc e
 pub unless-err : {F V : Type 0} (o : Option F) (v : V) (f : F) → unless o v ≡ Err f → o ≡ Some f
 unless-err None v f e = cc e
 unless-err (Some g) v f e = cc e
+
+-- where the first fault of rows stands
+pub record FirstAt {R F : Type 0} (f : List R → R → Option F) (earlier rows : List R) (fault : F) : Type 0 where
+  pub before : List R
+  pub row : R
+  pub after : List R
+  pub rows_are : rows ≡ before ++ row ∷ after
+  pub sound : first_fault f earlier before ≡ None
+  pub faulty : f (earlier ++ before) row ≡ Some fault
+
+first-go : {R F : Type 0} (f : List R → R → Option F) (earlier : List R) (row : R) (rows : List R) (fault : F) (o : Option F) → f earlier row ≡ o → (first_fault f (earlier ++ row ∷ []) rows ≡ Some fault → FirstAt f (earlier ++ row ∷ []) rows fault)
+    → option_or o (first_fault f (earlier ++ row ∷ []) rows) ≡ Some fault → FirstAt f earlier (row ∷ rows) fault
+first-go f earlier row rows fault (Some found) is later e = record { before = []; row = row; after = rows; rows_are = refl; sound = refl; faulty = rw append-nil (is ∙ e) }
+first-go f earlier row rows fault None is later e =
+    let at = later e in
+    record {
+      before = row ∷ at.before;
+      row = at.row;
+      after = at.after;
+      rows_are = ap (λ others. row ∷ others) at.rows_are;
+      sound = rw is at.sound;
+      faulty = rw append_assoc at at.faulty;
+    }
+
+pub first-to : {R F : Type 0} (f : List R → R → Option F) (earlier rows : List R) (fault : F) → first_fault f earlier rows ≡ Some fault → FirstAt f earlier rows fault
+first-to f earlier [] fault e = absurd (none-some fault e)
+first-to f earlier (row ∷ rows) fault e = first-go f earlier row rows fault (f earlier row) refl (first-to f (earlier ++ row ∷ []) rows fault) e
+
+pub first-from : {R F : Type 0} (f : List R → R → Option F) (rows before : List R) (row : R) (after : List R) (fault : F) → rows ≡ before ++ row ∷ after → first_fault f [] before ≡ None → f before row ≡ Some fault → first_fault f [] rows ≡ Some fault
+first-from f rows before row after fault rows_are sound faulty = rw (rows_are, first_fault-append f [] before (row ∷ after) sound, faulty) refl
+
+-- a fault of two tests, one after the other
+pub fault_if-some : {F : Type 0} (test : Bool) (fault found : F) (later : Option F) → fault_if test fault later ≡ Some found → ((test ≡ true) × (found ≡ fault)) ⊎ ((test ≡ false) × (later ≡ Some found))
+fault_if-some true fault found later e = inl (refl, sym (same_Some fault found e))
+fault_if-some false fault found later e = inr (refl, e)

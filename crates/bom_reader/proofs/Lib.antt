@@ -1,5 +1,14 @@
 pub mod Places
 pub mod NameFacts
+pub mod NamePlaces
 pub mod FirstFault
 pub mod Units
 pub mod OrderFacts
+pub mod PairFacts
+pub mod LineFacts
+pub mod BillFacts
+pub mod NameLaws
+pub mod OrderLaws
+pub mod LineLaws
+pub mod LineFaultLaws
+pub mod FormLaws

@@ -1,20 +1,18 @@
 -- Rows of orders without a fault, and the loop that reads them.
-use Rattle.std.proofs.Common.{◌≡◌, ◌≢◌, ℕ, zero, suc, ◌+◌, ◌-◌, ◌<◌, ◌≤◌, Bool, true, false, cond, not, List, [], ◌∷◌, ◌++◌, map, length, get_or, take, Option, None, Some, Result, Ok, Err, refl, sym, ap, ◌∙◌, unwrap_or, arith}
+use Rattle.std.proofs.Common.{◌≡◌, ◌≢◌, ℕ, ◌+◌, ◌<◌, ◌≤◌, true, false, not, List, [], ◌∷◌, ◌++◌, map, length, get_or, take, None, Result, Ok, Err, refl, sym, ◌∙◌, unwrap_or, arith}
 use Rattle.std.proofs.lemmas.Bool.{false≢true, not-false, ltb-false}
 use Rattle.std.proofs.lemmas.List.{get_or-map, get_or-take, take-map, length-append, length-map, length-take-le, map-append, take_all, take_more}
 use Rattle.std.proofs.lemmas.List.Elements.{All-map}
 use Rattle.std.proofs.lemmas.List.Folds.{list_any_at}
-use Rattle.std.proofs.lemmas.Option.{none-some}
-use Rattle.std.specs.Prelude.{All, is_none}
+use Rattle.std.specs.Prelude.{is_none}
 use Rattle.std.specs.List.{AllPairs}
-use Rattle.std.specs.Cmp.Lexicographic.{bytes_decides}
 use Rattle.std.specs.Str.{bytes_eq}
 use Rattle.tqd_base.specs.declared.limits.TheConstants.{QTY_MAX, NAMES_MAX}
 use Rattle.tqd_base.specs.declared.memory.Stop.{Stop}
 use Rattle.tqd_base.specs.declared.memory.Stop.TheVariants.{Refused, Memory}
 use Rattle.bom_reader.specs.Names.{is_name, has_name, with_name}
 use Rattle.bom_reader.specs.Bill.{AreOrders, OrdersData}
-use Rattle.bom_reader.specs.Faults.{Answers, fault_if, first_fault, unless}
+use Rattle.bom_reader.specs.Faults.{Answers, first_fault, unless}
 use Rattle.bom_reader.specs.Rows.{Row, field}
 use Rattle.bom_reader.specs.Orders.{product, order_units, order_fault, order_fault_after, orders_of}
 use Rattle.bom_reader.specs.declared.fault.BillFault.{BillFault}

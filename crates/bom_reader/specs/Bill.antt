@@ -22,6 +22,9 @@ pub record AreOrders (names : List (List ℕ)) (ordered : List ℕ) : Type 0 whe
   pub one_each : length ordered ≡ length names
   pub within : All (λ units. units ≤ QTY_MAX) ordered
 
+abbrev pub line_with : ℕ → ℕ → ℕ → Line
+line_with assembly part quantity = record { assembly = assembly; part = part; quantity = quantity }
+
 -- a line between two of so many names
 pub record IsLine (names : ℕ) (line : Line) : Type 0 where
   pub assembly : line.assembly < names

@@ -4,3 +4,4 @@ pub mod Faults
 pub mod Rows
 pub mod Orders
 pub mod Lines
+pub mod Laws

@@ -65,6 +65,9 @@ bill_with orders rows =
 abbrev pub bill_of : OrdersData → List Row → Result BillData BillFault
 bill_of orders rows = if nat_lt LINES_MAX (length rows) then Err TooManyLines else unless (first_fault (line_fault_after orders.names) [] rows) (bill_with orders rows)
 
--- the bill of orders and a file: `assembly,part,quantity`
+abbrev pub bill_columns : List (List ℕ)
+bill_columns = codes "assembly" ∷ codes "part" ∷ codes "quantity" ∷ []
+
+-- the bill of orders and a file
 abbrev pub bill_in : OrdersData → List ℕ → Result BillData BillFault
-bill_in orders bytes = and_then (bill_of orders) (rows_in (codes "assembly" ∷ codes "part" ∷ codes "quantity" ∷ []) bytes)
+bill_in orders bytes = and_then (bill_of orders) (rows_in bill_columns bytes)

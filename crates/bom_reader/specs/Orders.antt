@@ -34,6 +34,9 @@ orders_of rows = unless (first_fault order_fault_after [] rows) (record {
   ordered = map (λ row. unwrap_or (order_units row) 0) rows;
 })
 
--- the orders in a file: `product,quantity`
+abbrev pub order_columns : List (List ℕ)
+order_columns = codes "product" ∷ codes "quantity" ∷ []
+
+-- the orders in a file
 abbrev pub orders_in : List ℕ → Result OrdersData BillFault
-orders_in bytes = and_then orders_of (rows_in (codes "product" ∷ codes "quantity" ∷ []) bytes)
+orders_in bytes = and_then orders_of (rows_in order_columns bytes)

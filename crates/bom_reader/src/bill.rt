@@ -4,11 +4,14 @@ ghost use Rattle.bom_reader.specs.Lines.{bill_in};
 
 use crate::fault::BillFault;
 use crate::line::Line;
+use crate::lines::read_lines;
 use crate::names::NameList;
 use crate::orders::Orders;
+use crate::reading::read_table;
 use std::alloc::Global;
 use std::marker::Model;
 use tqd_base::Stop;
+use tqd_base::limits::LINES_MAX;
 
 /// A bill of materials with the orders: at most 20,000 names, at most 100,000 lines between them,
 /// and for each name the units ordered of it, 0 to 100,000,000.
@@ -26,15 +29,23 @@ impl Model for Bill {
 
     ghost Value = { BillData };
 
-    ghost view = { λ bill. record { names = bill.names; ordered = bill.ordered.items; lines = bill.lines.items } };
+    ghost view = { λ bill. record {
+      names = bill.names;
+      ordered = bill.ordered.items;
+      lines = bill.lines.items;
+    } };
 
-    ghost invariant = { λ bill. IsBill (record { names = bill.names; ordered = bill.ordered.items; lines = bill.lines.items }) };
+    ghost invariant = { λ bill. IsBill (record {
+      names = bill.names;
+      ordered = bill.ordered.items;
+      lines = bill.lines.items;
+    }) };
 }
 
 impl Bill {
     ghost use Rattle.std.specs.Prelude.{◌≡◌, ◌<◌, ◌≤◌, length, slice_index, slice_get, Some};
     ghost use Rattle.tqd_base.specs.declared.limits.TheConstants.{QTY_MAX};
-    ghost use Rattle.bom_reader.specs.Bill.{IsBill, IsLine};
+    ghost use Rattle.bom_reader.specs.Bill.{IsBill, IsLine, line_with};
 
     /// The names, those of the orders first.
     pub fn names(&self) -> &NameList
@@ -65,8 +76,8 @@ impl Bill {
     /// the assembly, from 1 to 100,000,000.
     pub fn line(&self, at: usize) -> (u32, u32, u64)
         requires { at < length self.now.lines }
-        ensures value { slice_get self.now.lines at ≡ Some (record { assembly = result.0; part = result.1; quantity = result.2 }) }
-        ensures kept { IsLine (length self.now.names) (record { assembly = result.0; part = result.1; quantity = result.2 }) }
+        ensures value { slice_get self.now.lines at ≡ Some (line_with result.0 result.1 result.2) }
+        ensures kept { IsLine (length self.now.names) (line_with result.0 result.1 result.2) }
     {
         let line = self.lines[at];
         (line.assembly, line.part, line.quantity)
@@ -93,8 +104,19 @@ pub fn no_bill(orders: Orders) -> Bill
 pub fn read_bill(alloc: Global, orders: Orders, bytes: &[u8]) -> Result<Bill, Stop<BillFault>>
     ensures { Answers result (bill_in orders bytes.now) }
 {
-    let _ = alloc;
-    let _ = orders;
-    let _ = bytes;
-    Err(Stop::Memory)
+    let table = read_table(alloc, bytes, "assembly,part,quantity")?;
+    if table.len() > LINES_MAX {
+        return Err(Stop::Refused(BillFault::TooManyLines));
+    }
+    let Orders {
+        mut names,
+        mut ordered,
+    } = orders;
+    let lines = read_lines(alloc, &table, &mut names)?;
+    ordered.resize(names.len(), 0)?;
+    Ok(Bill {
+        names,
+        ordered,
+        lines,
+    })
 }

@@ -14,9 +14,12 @@ mod bill;
 mod fault;
 pub mod laws;
 mod line;
+mod lines;
 mod names;
 mod orders;
 mod reading;
+#[cfg(test)]
+mod tests;
 
 pub use bill::{Bill, no_bill, read_bill};
 pub use fault::BillFault;

@@ -69,6 +69,9 @@ impl NameList {
     pub fn add(&mut self, name: &str) -> Result<u32, Memory>
         ensures names { OnOk result (self.new ≡ with_name self.old name.now) }
         ensures number { IfOk result (λ n. number_of self.new name.now ≡ Some n) }
+
+        // A name that is there takes no memory.
+        ensures absent { OnErr result (number_of self.old name.now ≡ None) }
         ensures err { OnErr result (self.new ≡ self.old) }
     {
         match self.number(name) {

@@ -49,7 +49,8 @@ fn are_name_bytes(bytes: &[u8]) -> bool
 
 /// The quantity in a row, at least `least`.
 pub(crate) fn read_units(text: &str, least: u64, at: u64) -> Result<u64, Stop<BillFault>>
-    ensures { Answers result (unless (fault_if (is_none (qty_of least QTY_MAX text.now)) (BadQuantity at) None) (unwrap_or (qty_of least QTY_MAX text.now) 0)) }
+    ensures { Answers result (unless (fault_if (is_none (qty_of least QTY_MAX text.now)) (BadQuantity at) None)
+        (unwrap_or (qty_of least QTY_MAX text.now) 0)) }
 {
     match read_qty(text.as_bytes(), least, QTY_MAX) {
         Some(units) => Ok(units),

@@ -1,12 +1,13 @@
 -- What the desks in memory give, over plain states.
-use Rattle.std.proofs.Common.{ℕ, ◌≡◌, ◌++◌, Bool, true, false, Option, None, Some, List, [], refl, sym, ◌∙◌, ap, subst, arith, append-nil}
+use Rattle.std.proofs.Common.{ℕ, ◌≡◌, ◌++◌, Bool, true, false, Option, None, Some, List, [], refl, sym, ◌∙◌, ap, true≢false, subst, arith, append-nil}
 use Rattle.std.specs.Prelude.{if◌then◌else◌, IsSome, Result, Ok, Err, IsErrAnd, nat_eq}
 use Rattle.std.specs.Option.{option_map}
 use Rattle.std.specs.Cmp.Lexicographic.{pointwise}
 use Rattle.tqd_base.specs.declared.desk.DeskStop.{DeskStop}
 use Rattle.tqd_base.specs.declared.kept.StoredFile.{StoredFile}
 use Rattle.tqd_base.specs.declared.kept.KeptSlot.{KeptSlot}
-use Rattle.tqd_base.specs.World.{World, State, Faults, NeverFall, Name, Bytes, Slot, Writes, append, print}
+use Rattle.tqd_base.specs.World.{World, State, Faults, NeverFall, Name, Bytes, Slot, Reading, Writing, Writes, append, print}
+use Rattle.tqd_base.specs.Store.{is_writing_slot}
 use Rattle.tqd_base.specs.Calls.{PutsPrefix, PrintsPrefix}
 use Rattle.tqd_base.specs.Kept.{file_at, world_at}
 use Rattle.tqd_base.specs.Told.{told_of}
@@ -27,6 +28,12 @@ pub writes_some : (s : Option Slot) → Writes s → IsSome s
 unfolding Writes
 writes_some (Some s) w = refl
 writes_some None w = absurd w
+
+pub writing_slot : (s : Option Slot) (b : Bool) → b ≡ true → b ≡ is_writing_slot s → Writes s
+unfolding Writes is_writing_slot
+writing_slot (Some (Reading name left)) b writes is = absurd (true≢false (sym writes ∙ is))
+writing_slot (Some (Writing name)) b writes is = tt
+writing_slot None b writes is = absurd (true≢false (sym writes ∙ is))
 
 pub told_world : (files : List StoredFile) (output : Bytes) (slots : List KeptSlot) (name : Name) (o : Option Bytes) → o ≡ file_at files name
     → told_of (world_at files output slots) name ≡ Some o

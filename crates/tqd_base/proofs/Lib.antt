@@ -1,3 +1,4 @@
+mod Counting
 pub mod Worlds
 pub mod Taken
 pub mod Whole

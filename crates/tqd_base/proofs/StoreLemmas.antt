@@ -8,8 +8,9 @@ use Rattle.tqd_base.specs.declared.kept.StoredFile.{StoredFile}
 use Rattle.tqd_base.specs.declared.kept.SlotState.{SlotState}
 use Rattle.tqd_base.specs.declared.kept.SlotState.TheVariants.{Closed, Reading as ReadsOn, Writing as WritesOn}
 use Rattle.tqd_base.specs.declared.kept.KeptSlot.{KeptSlot}
-use Rattle.tqd_base.specs.World.{World, Name, Bytes, Slot, Reads, Writes, IsReadable, set_slot, set_file, append, print, bytes_at, shortened, left_at, left_of, name_of, name_at}
+use Rattle.tqd_base.specs.World.{World, Name, Bytes, Slot, Reads, IsReadable, set_slot, set_file, append, print, bytes_at, shortened, left_at, left_of, name_of, name_at}
 use Rattle.tqd_base.specs.Calls.{Moves}
+use Rattle.tqd_base.specs.Store.{is_writing_slot}
 use Rattle.tqd_base.specs.Kept.{file_at, IsFirstAt, slot_in, slot_of, world_at, name_kept}
 use Rattle.tqd_base.specs.Store.{IsEmptyWorld}
 use Rattle.tqd_base.proofs.KeptLemmas.{get_push, get_push_other, slots_push, slots_fresh, slots_set, files_set, file_first, name_first, set_file-append}
@@ -212,11 +213,9 @@ pub on_err : (r : Result (Unit {0}) Memory) (A B : Type 0) → (A → B) → OnE
 on_err (Ok done) A B f a = tt
 on_err (Err e) A B f a = f a
 
-pub writes_here : (files : List StoredFile) (output : Bytes) (slots : List KeptSlot) (i : ℕ) (here : KeptSlot) → slice_get slots i ≡ Some here → here.state ≡ WritesOn
-    → Writes ((world_at files output slots).slots i)
-unfolding slot_of Writes
-writes_here files output slots i here e writes =
-    subst Writes (sym (slot_here files output slots i here e ∙ ap (slot_in (string_bytes here.name)) writes)) tt
+pub writing_here : (files : List StoredFile) (output : Bytes) (slots : List KeptSlot) (i : ℕ) (here : KeptSlot) → slice_get slots i ≡ Some here
+    → is_writing_slot (slot_of here) ≡ is_writing_slot ((world_at files output slots).slots i)
+writing_here files output slots i here e = ap is_writing_slot (sym (slot_here files output slots i here e))
 
 -- whether no file has a name
 pub readable_there : (files : List StoredFile) (output : Bytes) (slots : List KeptSlot) (absent_is_empty : Bool) (name bytes : Bytes) → file_at files name ≡ Some bytes

@@ -7,6 +7,8 @@ pub mod Kept
 pub mod StoreWorld
 pub mod Store
 pub mod Told
+pub mod Planned
 pub mod SureState
 pub mod MemoryState
+pub mod MemoryCalls
 pub mod RealState

@@ -1,6 +1,6 @@
 -- What the calls of a store do to its world.
-use Rattle.std.specs.Prelude.{ℕ, ◌≡◌, [], Option, Some, None, IsSomeAnd}
-use Rattle.tqd_base.specs.World.{World, State, Name, Slot, Writing, set_slot, set_file}
+use Rattle.std.specs.Prelude.{ℕ, ◌≡◌, [], Bool, true, false, Option, Some, None, IsSomeAnd}
+use Rattle.tqd_base.specs.World.{World, State, Name, Slot, Reading, Writing, set_slot, set_file}
 
 -- no file, no output and no open slot
 pub record IsEmptyWorld (w : World) : Type 0 where
@@ -24,3 +24,9 @@ pub record HasNoFaults (state : State) : Type 0 where
   pub writing : state.faults.writing ≡ 0
   pub printing : state.faults.printing ≡ 0
   pub failed_last : state.failed_last ≡ None
+
+-- whether a slot is open and writes
+unfoldable pub is_writing_slot : Option Slot → Bool
+is_writing_slot (Some (Reading name left)) = false
+is_writing_slot (Some (Writing name)) = true
+is_writing_slot None = false

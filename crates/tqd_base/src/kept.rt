@@ -41,6 +41,15 @@ pub struct KeptSlot {
 
 impl KeptSlot {
     ghost use Rattle.tqd_base.specs.Kept.{slot_of};
+    ghost use Rattle.tqd_base.specs.Store.{is_writing_slot};
+
+    // Whether the slot writes.
+    #[tactic(auto, unfolding(crate::specs::Kept::slot_of, crate::specs::Store::is_writing_slot))]
+    pub fn is_writing(&self) -> bool
+        ensures { result ≡ is_writing_slot (slot_of self.now) }
+    {
+        matches!(self.state, SlotState::Writing)
+    }
 
     // Moves at most so many of the bytes left to the front of the buffer.
     #[tactic(auto, unfolding(crate::specs::Kept::slot_of, crate::specs::World::Reads, crate::specs::World::shortened, crate::specs::World::left_of))]
@@ -49,6 +58,7 @@ impl KeptSlot {
         requires room { 0 < length buffer.old }
         requires some { 1 ≤ most }
         ensures fits { result ≤ length buffer.new }
+        ensures bounded { result ≤ most }
         ensures moved { IfSome (option_and_then left_of (slot_of self.old)) (λ left. Moves left buffer.new result) }
         ensures after { slot_of self.new ≡ option_map (shortened result) (slot_of self.old) }
         ensures named { string_bytes self.new.name ≡ string_bytes self.old.name }

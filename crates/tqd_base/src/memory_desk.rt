@@ -16,17 +16,19 @@ pub struct MemoryDesk {
 }
 
 impl MemoryDesk {
-    ghost use Rattle.std.specs.Prelude.{◌≡◌, ◌≤◌, Some, IfOk, OnOk, OnErr, Err, false};
+    ghost use Rattle.std.specs.Prelude.{◌≡◌, ◌≤◌, ◌++◌, ◌∷◌, [], ◌-◌, ◌^◌, Some, IfOk, OnOk, OnErr, Err, false};
     ghost use Rattle.std.specs.Option.{option_copied};
     ghost use Rattle.tqd_base.specs.Store.{IsEmptyWorld, HasNoFaults};
     ghost use Rattle.tqd_base.specs.Told.{with_file, told_of};
-    ghost use Rattle.tqd_base.specs.MemoryState.{memory_state};
+    ghost use Rattle.tqd_base.specs.MemoryState.{memory_state, planned, most_taken, KeepsPlan};
     ghost use Rattle.tqd_base.specs.Calls.{OpenGives};
 
     /// A desk without files, without output and without an open slot. It takes no memory.
     pub fn new(alloc: Global) -> Result<MemoryDesk, Memory>
         ensures empty { IfOk result (λ desk. IsEmptyWorld (memory_state desk).world) }
         ensures faults { IfOk result (λ desk. HasNoFaults (memory_state desk)) }
+        ensures unplanned { IfOk result (λ desk. planned desk ≡ []) }
+        ensures unbounded { IfOk result (λ desk. most_taken desk ≡ 2 ^ 64 - 1) }
     {
         Ok(MemoryDesk {
             store: Store::new(alloc),
@@ -41,6 +43,7 @@ impl MemoryDesk {
     pub fn set_file(&mut self, name: &str, bytes: &[u8]) -> Result<(), Memory>
         ensures set { OnOk result (memory_state self.new ≡ with_file (memory_state self.old) name.now bytes.now) }
         ensures stays { OnErr result (memory_state self.new ≡ memory_state self.old) }
+        ensures plan { KeepsPlan self.old self.new }
     {
         self.store.set_file(name, bytes)
     }
@@ -49,7 +52,10 @@ impl MemoryDesk {
     ///
     /// A `put` or an `out` that fails adds the first half of its piece, rounded down.
     pub fn fail(&mut self, call: DeskCall, nth: u64) -> Result<(), Memory>
-        ensures { memory_state self.new ≡ memory_state self.old }
+        ensures added { OnOk result (planned self.new ≡ planned self.old ++ record { call = call; left = nth } ∷ []) }
+        ensures stays { OnErr result (planned self.new ≡ planned self.old) }
+        ensures state { memory_state self.new ≡ memory_state self.old }
+        ensures most { most_taken self.new ≡ most_taken self.old }
     {
         self.plan.add(call, nth)
     }
@@ -57,7 +63,9 @@ impl MemoryDesk {
     /// Bounds how many bytes one `take` gives.
     pub fn piece(&mut self, most: usize)
         requires { 1 ≤ most }
-        ensures { memory_state self.new ≡ memory_state self.old }
+        ensures most { most_taken self.new ≡ most }
+        ensures state { memory_state self.new ≡ memory_state self.old }
+        ensures planned { planned self.new ≡ planned self.old }
     {
         self.store.bound(most);
     }
@@ -78,7 +86,8 @@ impl MemoryDesk {
 
     // Counts a fault of opening a name, where memory for the name is to be had.
     fn failed_open(&mut self, name: &str) -> DeskStop
-        ensures { OpenGives false (memory_state self.old) (memory_state self.new) name.now (Err result) }
+        ensures gives { OpenGives false (memory_state self.old) (memory_state self.new) name.now (Err result) }
+        ensures plan { KeepsPlan self.old self.new }
     {
         match self.store.fail_name(name) {
             Ok(()) => {
@@ -91,14 +100,26 @@ impl MemoryDesk {
 }
 
 impl Desk for MemoryDesk {
-    ghost use Rattle.std.specs.Prelude.{false};
-    ghost use Rattle.tqd_base.specs.MemoryState.{memory_state};
+    ghost use Rattle.std.specs.Prelude.{◌≡◌, ◌<◌, ◌≤◌, ◌&&◌, ◌||◌, false, is_none, if◌then◌else◌, length, IfOk, IsSome};
+    ghost use Rattle.tqd_base.specs.MemoryState.{memory_state, planned, most_taken};
+    ghost use Rattle.tqd_base.specs.MemoryCalls.{FailsWhere, PutsHalf, PrintsHalf};
+    ghost use Rattle.tqd_base.specs.Planned.{counted, is_due};
+    ghost use Rattle.tqd_base.specs.Calls.{OpenGives, TakeGives, MakeGives, PutGives, OutGives, CloseGives};
+    ghost use Rattle.tqd_base.specs.World.{Reads, Writes, HasNoSlot};
+    ghost use Rattle.tqd_base.specs.Kept.{file_at};
+    ghost use Rattle.tqd_base.specs.Store.{is_writing_slot};
+    ghost use Rattle.tqd_base.specs.declared.plan.DeskCall.TheVariants.{Open, Take, Make, Put, Out, Close};
 
     ghost state = { λ desk. memory_state desk };
 
     ghost absent_is_empty = { false };
 
-    fn open(&mut self, _alloc: Global, name: &str) -> Result<u32, DeskStop> {
+    fn open(&mut self, _alloc: Global, name: &str) -> Result<u32, DeskStop>
+        ensures gives { OpenGives false (memory_state self.old) (memory_state self.new) name.now result }
+        ensures fails { FailsWhere (is_due Open (planned self.old) || is_none (file_at self.old.store.files.items name.now)) result }
+        ensures counted { planned self.new ≡ counted Open (planned self.old) }
+        ensures most { most_taken self.new ≡ most_taken self.old }
+    {
         if self.plan.is_due(DeskCall::Open) {
             return Err(self.failed_open(name));
         }
@@ -108,7 +129,15 @@ impl Desk for MemoryDesk {
         Ok(self.store.open(name)?)
     }
 
-    fn take(&mut self, slot: u32, buffer: &mut [u8]) -> Result<usize, DeskStop> {
+    fn take(&mut self, slot: u32, buffer: &mut [u8]) -> Result<usize, DeskStop>
+        requires reads { Reads ((memory_state self.old).world.slots slot) }
+        requires room { 0 < length buffer.old }
+        ensures gives { TakeGives (memory_state self.old) (memory_state self.new) slot buffer.new result }
+        ensures fails { FailsWhere (is_due Take (planned self.old)) result }
+        ensures bounded { IfOk result (λ count. count ≤ most_taken self.old) }
+        ensures counted { planned self.new ≡ counted Take (planned self.old) }
+        ensures most { most_taken self.new ≡ most_taken self.old }
+    {
         if self.plan.is_due(DeskCall::Take) {
             self.store.fail_slot(slot);
             self.reading = risen(self.reading);
@@ -117,7 +146,13 @@ impl Desk for MemoryDesk {
         Ok(self.store.take(slot, buffer))
     }
 
-    fn make(&mut self, _alloc: Global, name: &str) -> Result<u32, DeskStop> {
+    fn make(&mut self, _alloc: Global, name: &str) -> Result<u32, DeskStop>
+        requires { HasNoSlot (memory_state self.old).world name.now }
+        ensures gives { MakeGives (memory_state self.old) (memory_state self.new) name.now result }
+        ensures fails { FailsWhere (is_due Make (planned self.old)) result }
+        ensures counted { planned self.new ≡ counted Make (planned self.old) }
+        ensures most { most_taken self.new ≡ most_taken self.old }
+    {
         if self.plan.is_due(DeskCall::Make) {
             self.writing = risen(self.writing);
             return Err(DeskStop::Failed);
@@ -125,7 +160,14 @@ impl Desk for MemoryDesk {
         Ok(self.store.make(name)?)
     }
 
-    fn put(&mut self, slot: u32, piece: &[u8]) -> Result<(), DeskStop> {
+    fn put(&mut self, slot: u32, piece: &[u8]) -> Result<(), DeskStop>
+        requires { Writes ((memory_state self.old).world.slots slot) }
+        ensures gives { PutGives (memory_state self.old) (memory_state self.new) slot piece.now result }
+        ensures fails { FailsWhere (is_due Put (planned self.old)) result }
+        ensures half { PutsHalf (memory_state self.old) (memory_state self.new) slot piece.now result }
+        ensures counted { planned self.new ≡ counted Put (planned self.old) }
+        ensures most { most_taken self.new ≡ most_taken self.old }
+    {
         if self.plan.is_due(DeskCall::Put) {
             let half = &piece[..piece.len() / 2];
             self.store.put(slot, half)?;
@@ -135,7 +177,13 @@ impl Desk for MemoryDesk {
         Ok(self.store.put(slot, piece)?)
     }
 
-    fn out(&mut self, piece: &[u8]) -> Result<(), DeskStop> {
+    fn out(&mut self, piece: &[u8]) -> Result<(), DeskStop>
+        ensures gives { OutGives (memory_state self.old) (memory_state self.new) piece.now result }
+        ensures fails { FailsWhere (is_due Out (planned self.old)) result }
+        ensures half { PrintsHalf (memory_state self.old) (memory_state self.new) piece.now result }
+        ensures counted { planned self.new ≡ counted Out (planned self.old) }
+        ensures most { most_taken self.new ≡ most_taken self.old }
+    {
         if self.plan.is_due(DeskCall::Out) {
             let half = &piece[..piece.len() / 2];
             self.store.out(half)?;
@@ -145,7 +193,13 @@ impl Desk for MemoryDesk {
         Ok(self.store.out(piece)?)
     }
 
-    fn close(&mut self, slot: u32) -> Result<(), DeskStop> {
+    fn close(&mut self, slot: u32) -> Result<(), DeskStop>
+        requires { IsSome ((memory_state self.old).world.slots slot) }
+        ensures gives { CloseGives (memory_state self.old) (memory_state self.new) slot result }
+        ensures fails { FailsWhere (is_writing_slot ((memory_state self.old).world.slots slot) && is_due Close (planned self.old)) result }
+        ensures counted { planned self.new ≡ (if is_writing_slot ((memory_state self.old).world.slots slot) then counted Close (planned self.old) else planned self.old) }
+        ensures most { most_taken self.new ≡ most_taken self.old }
+    {
         let writes = self.store.is_writing(slot);
         self.store.end(slot);
         if !writes {

@@ -20,17 +20,18 @@ pub struct Store {
 }
 
 impl Store {
-    ghost use Rattle.std.specs.Prelude.{◌≡◌, ◌++◌, ℕ, length, Some, None, IfOk, OnOk, OnErr, IsSome, option_and_then, slice_get, true};
+    ghost use Rattle.std.specs.Prelude.{◌≡◌, ◌++◌, ℕ, length, Some, None, IfOk, OnOk, OnErr, IsSome, is_none, option_and_then, slice_get, ◌^◌, ◌-◌};
     ghost use Rattle.std.specs.Option.{option_map, option_copied};
     ghost use Rattle.tqd_base.specs.StoreWorld.{world_of, failed_of};
     ghost use Rattle.tqd_base.specs.World.{Reading, Reads, Writes, set_slot, set_file, append, print, bytes_at, name_at, left_at, shortened, IsReadable};
     ghost use Rattle.tqd_base.specs.Calls.{Moves};
     ghost use Rattle.tqd_base.specs.Kept.{file_at, slot_in};
-    ghost use Rattle.tqd_base.specs.Store.{IsEmptyWorld, AddsSlot, MakesSlot};
+    ghost use Rattle.tqd_base.specs.Store.{IsEmptyWorld, AddsSlot, MakesSlot, is_writing_slot};
 
     pub fn new(alloc: Global) -> Store
         ensures world { IsEmptyWorld (world_of result) }
         ensures failed { failed_of result ≡ None }
+        ensures most { result.most ≡ 2 ^ 64 - 1 }
     {
         Store {
             files: Vec::new(alloc),
@@ -64,6 +65,7 @@ impl Store {
         requires { 1 ≤ most }
         ensures world { world_of self.new ≡ world_of self.old }
         ensures failed { failed_of self.new ≡ failed_of self.old }
+        ensures most { self.new.most ≡ most }
     {
         self.most = most;
     }
@@ -73,6 +75,7 @@ impl Store {
         ensures set { OnOk result (world_of self.new ≡ set_file (world_of self.old) name.now bytes.now) }
         ensures stays { OnErr result (world_of self.new ≡ world_of self.old) }
         ensures failed { failed_of self.new ≡ failed_of self.old }
+        ensures most { self.new.most ≡ self.old.most }
     {
         let bytes = Vec::from_slice(self.alloc, bytes)?;
         let name_kept = String::from_str(self.alloc, name)?;
@@ -92,6 +95,7 @@ impl Store {
         ensures added { IfOk result (λ slot. AddsSlot (world_of self.old) (world_of self.new) slot (slot_in name.now state)) }
         ensures stays { OnErr result (world_of self.new ≡ world_of self.old) }
         ensures failed { failed_of self.new ≡ failed_of self.old }
+        ensures most { self.new.most ≡ self.old.most }
     {
         let number = self.slots.len();
         if number >= u32::MAX as usize {
@@ -114,7 +118,8 @@ impl Store {
 
     // Whether no file has this name.
     pub fn is_absent(&self, name: &str) -> bool
-        ensures { IsReadable result (world_of self.now) name.now }
+        ensures readable { IsReadable result (world_of self.now) name.now }
+        ensures absent { result ≡ is_none (file_at self.now.files.items name.now) }
     {
         match self.file(name) {
             Some(_) => false,
@@ -125,9 +130,9 @@ impl Store {
     // Whether an open slot writes.
     pub fn is_writing(&self, slot: u32) -> bool
         requires { IsSome ((world_of self.now).slots slot) }
-        ensures { result ≡ true → Writes ((world_of self.now).slots slot) }
+        ensures { result ≡ is_writing_slot ((world_of self.now).slots slot) }
     {
-        matches!(self.slots[slot as usize].state, SlotState::Writing)
+        self.slots[slot as usize].is_writing()
     }
 
     // Opens a slot that reads a copy of the file's bytes.
@@ -135,6 +140,7 @@ impl Store {
         ensures opened { IfOk result (λ slot. AddsSlot (world_of self.old) (world_of self.new) slot (Some (Reading name.now (bytes_at (world_of self.old) name.now)))) }
         ensures stays { OnErr result (world_of self.new ≡ world_of self.old) }
         ensures failed { failed_of self.new ≡ failed_of self.old }
+        ensures most { self.new.most ≡ self.old.most }
     {
         let bytes = self.copy(name)?;
         self.add_slot(name, SlotState::Reading(bytes, 0))
@@ -145,9 +151,11 @@ impl Store {
         requires reads { Reads ((world_of self.old).slots slot) }
         requires room { 0 < length buffer.old }
         ensures fits { result ≤ length buffer.new }
+        ensures bounded { result ≤ self.old.most }
         ensures moved { IfSome (left_at (world_of self.old) slot) (λ left. Moves left buffer.new result) }
         ensures world { world_of self.new ≡ set_slot (world_of self.old) slot (option_map (shortened result) ((world_of self.old).slots slot)) }
         ensures failed { failed_of self.new ≡ failed_of self.old }
+        ensures most { self.new.most ≡ self.old.most }
     {
         let most = self.most;
         self.slots[slot as usize].take(most, buffer)
@@ -158,6 +166,7 @@ impl Store {
         requires { IsSome ((world_of self.old).slots slot) }
         ensures world { world_of self.new ≡ set_slot (world_of self.old) slot None }
         ensures failed { failed_of self.new ≡ failed_of self.old }
+        ensures most { self.new.most ≡ self.old.most }
     {
         self.slots[slot as usize].state = SlotState::Closed;
     }
@@ -167,6 +176,7 @@ impl Store {
         ensures made { IfOk result (λ slot. MakesSlot (world_of self.old) (world_of self.new) name.now slot) }
         ensures stays { OnErr result (world_of self.new ≡ world_of self.old) }
         ensures failed { failed_of self.new ≡ failed_of self.old }
+        ensures most { self.new.most ≡ self.old.most }
     {
         let slot = self.add_slot(name, SlotState::Writing)?;
         match self.set_file(name, &[]) {
@@ -184,6 +194,7 @@ impl Store {
         ensures put { OnOk result (world_of self.new ≡ append (world_of self.old) (name_at (world_of self.old) slot) piece.now) }
         ensures stays { OnErr result (world_of self.new ≡ world_of self.old) }
         ensures failed { failed_of self.new ≡ failed_of self.old }
+        ensures most { self.new.most ≡ self.old.most }
     {
         match find(&self.files, self.slots[slot as usize].name.as_str()) {
             Some(i) => self.files[i].grow(piece),
@@ -196,6 +207,7 @@ impl Store {
         ensures out { OnOk result (world_of self.new ≡ print (world_of self.old) piece.now) }
         ensures stays { OnErr result (world_of self.new ≡ world_of self.old) }
         ensures failed { failed_of self.new ≡ failed_of self.old }
+        ensures most { self.new.most ≡ self.old.most }
     {
         Ok(self.output.extend_from_slice(piece)?)
     }
@@ -204,6 +216,7 @@ impl Store {
     pub fn fail_name(&mut self, name: &str) -> Result<(), Memory>
         ensures world { world_of self.new ≡ world_of self.old }
         ensures failed { OnOk result (failed_of self.new ≡ Some name.now) }
+        ensures most { self.new.most ≡ self.old.most }
         ensures stays { OnErr result (failed_of self.new ≡ failed_of self.old) }
     {
         let place = self.slots.len();
@@ -219,6 +232,7 @@ impl Store {
         requires { IsSome ((world_of self.old).slots slot) }
         ensures world { world_of self.new ≡ world_of self.old }
         ensures failed { failed_of self.new ≡ Some (name_at (world_of self.old) slot) }
+        ensures most { self.new.most ≡ self.old.most }
     {
         self.failed = Some(slot as usize);
     }

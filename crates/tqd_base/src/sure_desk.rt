@@ -10,15 +10,16 @@ pub struct SureDesk {
 }
 
 impl SureDesk {
-    ghost use Rattle.std.specs.Prelude.{◌≡◌, ◌≤◌, Some, IfOk, OnOk, OnErr};
+    ghost use Rattle.std.specs.Prelude.{◌≡◌, ◌≤◌, ◌-◌, ◌^◌, Some, IfOk, OnOk, OnErr};
     ghost use Rattle.std.specs.Option.{option_copied};
     ghost use Rattle.tqd_base.specs.Store.{IsEmptyWorld};
     ghost use Rattle.tqd_base.specs.Told.{with_file, told_of};
-    ghost use Rattle.tqd_base.specs.SureState.{sure_state};
+    ghost use Rattle.tqd_base.specs.SureState.{sure_state, sure_most};
 
     /// A desk without files, without output and without an open slot. It takes no memory.
     pub fn new(alloc: Global) -> Result<SureDesk, Memory>
-        ensures { IfOk result (λ desk. IsEmptyWorld (sure_state desk).world) }
+        ensures empty { IfOk result (λ desk. IsEmptyWorld (sure_state desk).world) }
+        ensures unbounded { IfOk result (λ desk. sure_most desk ≡ 2 ^ 64 - 1) }
     {
         Ok(SureDesk {
             store: Store::new(alloc),
@@ -29,6 +30,7 @@ impl SureDesk {
     pub fn set_file(&mut self, name: &str, bytes: &[u8]) -> Result<(), Memory>
         ensures set { OnOk result (sure_state self.new ≡ with_file (sure_state self.old) name.now bytes.now) }
         ensures stays { OnErr result (sure_state self.new ≡ sure_state self.old) }
+        ensures most { sure_most self.new ≡ sure_most self.old }
     {
         self.store.set_file(name, bytes)
     }
@@ -36,7 +38,8 @@ impl SureDesk {
     /// Bounds how many bytes one `take` gives.
     pub fn piece(&mut self, most: usize)
         requires { 1 ≤ most }
-        ensures { sure_state self.new ≡ sure_state self.old }
+        ensures most { sure_most self.new ≡ most }
+        ensures state { sure_state self.new ≡ sure_state self.old }
     {
         self.store.bound(most);
     }
@@ -57,34 +60,60 @@ impl SureDesk {
 }
 
 impl Desk for SureDesk {
-    ghost use Rattle.std.specs.Prelude.{true};
-    ghost use Rattle.tqd_base.specs.SureState.{sure_state};
+    ghost use Rattle.std.specs.Prelude.{◌≡◌, ◌<◌, ◌≤◌, true, length, IfOk, IsSome};
+    ghost use Rattle.tqd_base.specs.World.{Reads, Writes, HasNoSlot};
+    ghost use Rattle.tqd_base.specs.Calls.{OpenGives, TakeGives, MakeGives, PutGives, OutGives, CloseGives};
+    ghost use Rattle.tqd_base.specs.SureState.{sure_state, sure_most};
 
     ghost state = { λ desk. sure_state desk };
 
     ghost absent_is_empty = { true };
 
-    fn open(&mut self, _alloc: Global, name: &str) -> Result<u32, DeskStop> {
+    fn open(&mut self, _alloc: Global, name: &str) -> Result<u32, DeskStop>
+        ensures gives { OpenGives true (sure_state self.old) (sure_state self.new) name.now result }
+        ensures most { sure_most self.new ≡ sure_most self.old }
+    {
         Ok(self.store.open(name)?)
     }
 
-    fn take(&mut self, slot: u32, buffer: &mut [u8]) -> Result<usize, DeskStop> {
+    fn take(&mut self, slot: u32, buffer: &mut [u8]) -> Result<usize, DeskStop>
+        requires reads { Reads ((sure_state self.old).world.slots slot) }
+        requires room { 0 < length buffer.old }
+        ensures gives { TakeGives (sure_state self.old) (sure_state self.new) slot buffer.new result }
+        ensures bounded { IfOk result (λ count. count ≤ sure_most self.old) }
+        ensures most { sure_most self.new ≡ sure_most self.old }
+    {
         Ok(self.store.take(slot, buffer))
     }
 
-    fn make(&mut self, _alloc: Global, name: &str) -> Result<u32, DeskStop> {
+    fn make(&mut self, _alloc: Global, name: &str) -> Result<u32, DeskStop>
+        requires { HasNoSlot (sure_state self.old).world name.now }
+        ensures gives { MakeGives (sure_state self.old) (sure_state self.new) name.now result }
+        ensures most { sure_most self.new ≡ sure_most self.old }
+    {
         Ok(self.store.make(name)?)
     }
 
-    fn put(&mut self, slot: u32, piece: &[u8]) -> Result<(), DeskStop> {
+    fn put(&mut self, slot: u32, piece: &[u8]) -> Result<(), DeskStop>
+        requires { Writes ((sure_state self.old).world.slots slot) }
+        ensures gives { PutGives (sure_state self.old) (sure_state self.new) slot piece.now result }
+        ensures most { sure_most self.new ≡ sure_most self.old }
+    {
         Ok(self.store.put(slot, piece)?)
     }
 
-    fn out(&mut self, piece: &[u8]) -> Result<(), DeskStop> {
+    fn out(&mut self, piece: &[u8]) -> Result<(), DeskStop>
+        ensures gives { OutGives (sure_state self.old) (sure_state self.new) piece.now result }
+        ensures most { sure_most self.new ≡ sure_most self.old }
+    {
         Ok(self.store.out(piece)?)
     }
 
-    fn close(&mut self, slot: u32) -> Result<(), DeskStop> {
+    fn close(&mut self, slot: u32) -> Result<(), DeskStop>
+        requires { IsSome ((sure_state self.old).world.slots slot) }
+        ensures gives { CloseGives (sure_state self.old) (sure_state self.new) slot result }
+        ensures most { sure_most self.new ≡ sure_most self.old }
+    {
         self.store.end(slot);
         Ok(())
     }

@@ -1,15 +1,19 @@
 -- From what was found and printed to the cause of the answer.
-use Rattle.std.proofs.Common.{ℕ, ◌≡◌, ◌≤◌, Bool, List, [], ◌∷◌, Option, None, Some, take, refl, sym, ◌∙◌, ap, subst, arith, inl, inr}
+use Rattle.std.proofs.Common.{ℕ, ◌≡◌, ◌≤◌, Bool, List, [], Option, None, Some, take, refl, sym, ◌∙◌, ap, subst, arith, inl, inr, ◌⊎◌}
 use Rattle.std.specs.Prelude.{IsSome, IfSome, unwrap_or}
 use Rattle.std.specs.Option.{option_map}
 use Rattle.tqd_base.specs.World.{World, State, Name, Bytes, NeverFall, Rose, bytes_at, print}
-use Rattle.tqd_top.specs.declared.answer.InputFile.TheVariants.{Orders, Bill, Offers as OffersFile, Terms, Tree as TreeFile}
+use Rattle.plan_report.specs.declared.file.InputFile.TheVariants.{Orders, Bill, Offers as OffersFile, Terms, Tree as TreeFile}
 use Rattle.tqd_top.specs.declared.answer.Target.TheVariants.{Tree, Out}
 use Rattle.tqd_top.specs.declared.answer.Answer.{Answer}
-use Rattle.tqd_top.specs.declared.answer.Answer.TheVariants.{Solved, Infeasible, NotBuilt, ReadFault, WriteFault, Memory}
-use Rattle.tqd_top.specs.Words.{IsSolve}
+use Rattle.tqd_top.specs.declared.answer.Answer.TheVariants.{Solved, Infeasible, Listed, Words, BadInput, NotBuilt, ReadFault, WriteFault, Memory}
+use Rattle.plan_report.specs.declared.file.InputFile.{InputFile}
+use Rattle.plan_report.specs.declared.fault.FileFault.{FileFault}
+use Rattle.tqd_top.specs.Listing.{IsUnreadBill, at_orders, at_bill}
+use Rattle.tqd_top.specs.Words.{Asked, FilesNamed, IsNoForm, IsSolve, IsNeeds, ToSolve, ToNeed, two_files}
 use Rattle.tqd_top.specs.Plain.{Order, Offers, plain_order, plain_offers}
-use Rattle.tqd_top.specs.Answers.{ReadsAs, StatesOrder, StatesOffers, StatesNoOrder, StatesNoOffers, FailsAt, IsFound, IsNotBuilt, IsCutOff, HasCause, FailsOnlyInputs, IsJobGiven, IsFaultless, IsAnswerToJob}
+use Rattle.tqd_top.specs.Answers.{StatesOrder, StatesOffers, StatesNoOrder, StatesNoOffers, IsFound, IsReadFault, IsNeedsFound, IsNotBuilt, IsCutOff, HasCause, FailsOnlyInputs, IsJobGiven, IsFaultless, IsAnswerToJob, IsAnswerToNeeds}
+use Rattle.tqd_top.specs.Reads.{ReadsAs, FailsAt}
 use Rattle.tqd_top.specs.Runs.{FindsQuietly, PrintGives, Grows}
 
 rose_before : (a b c : ℕ) → Rose a b → b ≤ c → Rose a c
@@ -27,12 +31,10 @@ fails_still old mid new name falls kept f = record {
   named = λ told. kept ∙ f.named told;
 }
 
-found_still : (a : Bool) (old mid new : State) (words : List Name) (answer : Answer) (text : Bytes) → NeverFall mid.faults new.faults → new.failed_last ≡ mid.failed_last
-    → IsFound a old mid words answer text → IsFound a old new words answer text
-found_still a old mid new words (Solved plan amount) text falls kept f = f
-found_still a old mid new words Infeasible text falls kept f = f
-found_still a old mid new words NotBuilt text falls kept f = f
-found_still a old mid new words (ReadFault Orders) text falls kept f = (
+-- what the words of a `solve` and of a `needs` make of a fault stands after the printing
+solve_fault_still : (a : Bool) (old mid new : State) (words : List Name) (file : InputFile) (text : Bytes) → NeverFall mid.faults new.faults → new.failed_last ≡ mid.failed_last
+    → IsReadFault a old mid words file text → IsReadFault a old new words file text
+solve_fault_still a old mid new words Orders text falls kept f = (
   record {
     orders_name = f.0.orders_name;
     offers_name = f.0.offers_name;
@@ -41,7 +43,7 @@ found_still a old mid new words (ReadFault Orders) text falls kept f = (
   },
   f.1,
 )
-found_still a old mid new words (ReadFault OffersFile) text falls kept f = (
+solve_fault_still a old mid new words OffersFile text falls kept f = (
   record {
     orders_name = f.0.orders_name;
     offers_name = f.0.offers_name;
@@ -52,9 +54,41 @@ found_still a old mid new words (ReadFault OffersFile) text falls kept f = (
   },
   f.1,
 )
-found_still a old mid new words (ReadFault Bill) text falls kept f = absurd f
-found_still a old mid new words (ReadFault Terms) text falls kept f = absurd f
-found_still a old mid new words (ReadFault TreeFile) text falls kept f = absurd f
+solve_fault_still a old mid new words Bill text falls kept f = absurd f
+solve_fault_still a old mid new words Terms text falls kept f = absurd f
+solve_fault_still a old mid new words TreeFile text falls kept f = absurd f
+
+unread_still : (a : Bool) (old mid new : State) (orders_name : Name) (bill_name : Option Name) (file : InputFile) → NeverFall mid.faults new.faults → new.failed_last ≡ mid.failed_last
+    → IsUnreadBill a old mid orders_name bill_name file → IsUnreadBill a old new orders_name bill_name file
+unread_still a old mid new orders_name bill_name file falls kept (at_orders f) = at_orders (fails_still old mid new orders_name falls kept f)
+unread_still a old mid new orders_name bill_name file falls kept (at_bill {name = name} orders given f) = at_bill orders given (fails_still old mid new name falls kept f)
+
+needs_fault_still : (a : Bool) (old mid new : State) (words : List Name) (file : InputFile) (text : Bytes) → NeverFall mid.faults new.faults → new.failed_last ≡ mid.failed_last
+    → IsNeedsFound a old mid words (ReadFault file) text → IsNeedsFound a old new words (ReadFault file) text
+needs_fault_still a old mid new words file text falls kept f = record {
+  orders_name = f.orders_name;
+  bill_name = f.bill_name;
+  is_needs = f.is_needs;
+  answers = record { unread = unread_still a old mid new f.orders_name f.bill_name file falls kept f.answers.unread; text_is = f.answers.text_is };
+}
+
+-- the rest of what was found speaks of the state before
+needs_still : (a : Bool) (old mid new : State) (words : List Name) (fault : FileFault) (text : Bytes) → IsNeedsFound a old mid words (BadInput fault) text → IsNeedsFound a old new words (BadInput fault) text
+needs_still a old mid new words fault text f = record { orders_name = f.orders_name; bill_name = f.bill_name; is_needs = f.is_needs; answers = f.answers }
+
+listed_still : (a : Bool) (old mid new : State) (words : List Name) (text : Bytes) → IsNeedsFound a old mid words Listed text → IsNeedsFound a old new words Listed text
+listed_still a old mid new words text f = record { orders_name = f.orders_name; bill_name = f.bill_name; is_needs = f.is_needs; answers = f.answers }
+
+found_still : (a : Bool) (old mid new : State) (words : List Name) (answer : Answer) (text : Bytes) → NeverFall mid.faults new.faults → new.failed_last ≡ mid.failed_last
+    → IsFound a old mid words answer text → IsFound a old new words answer text
+found_still a old mid new words (Solved plan amount) text falls kept f = f
+found_still a old mid new words Infeasible text falls kept f = f
+found_still a old mid new words Listed text falls kept f = listed_still a old mid new words text f
+found_still a old mid new words Words text falls kept f = f
+found_still a old mid new words (BadInput fault) text falls kept f = needs_still a old mid new words fault text f
+found_still a old mid new words NotBuilt text falls kept f = f
+found_still a old mid new words (ReadFault file) text falls kept (inl f) = inl (solve_fault_still a old mid new words file text falls kept f)
+found_still a old mid new words (ReadFault file) text falls kept (inr f) = inr (needs_fault_still a old mid new words file text falls kept f)
 found_still a old mid new words (WriteFault target) text falls kept f = absurd f
 found_still a old mid new words Memory text falls kept f = absurd f
 
@@ -62,6 +96,9 @@ printed : (a : Bool) (old new : State) (words : List Name) (answer : Answer) (te
     → new.world ≡ print old.world text → HasCause a old new words answer
 printed a old new words (Solved plan amount) text f w = record { text = text; found = f; world = w }
 printed a old new words Infeasible text f w = record { text = text; found = f; world = w }
+printed a old new words Listed text f w = record { text = text; found = f; world = w }
+printed a old new words (BadInput fault) text f w = record { text = text; found = f; world = w }
+printed a old new words Words text f w = record { text = text; found = f; world = w }
 printed a old new words NotBuilt text f w = record { text = text; found = f; world = w }
 printed a old new words (ReadFault file) text f w = record { text = text; found = f; world = w }
 printed a old new words (WriteFault target) text f w = absurd f
@@ -101,11 +138,13 @@ inputs_of old mid new words q kept = λ told. elim (q.named told) [
 ]
 
 -- the names of two readings of the words are one
-six_same : (c o d f t r c' p d' g t' r' : Name) → c ∷ o ∷ d ∷ f ∷ t ∷ r ∷ [] ≡ c' ∷ p ∷ d' ∷ g ∷ t' ∷ r' ∷ [] → (o ≡ p) × (f ≡ g)
-six_same c o d f t r c' p d' g t' r' e = (cc, cc)
+two_same : (o f p g : Name) → Some (ToSolve (two_files o f) None None) ≡ Some (ToSolve (two_files p g) None None) → (o ≡ p) × (f ≡ g)
+two_same o f p g e =
+    let same : two_files o f ≡ two_files p g = cc in
+    (ap (λ (files : FilesNamed). files.orders) same, ap (λ (files : FilesNamed). files.offers) same)
 
 names_same : (words : List Name) (o f p g : Name) → IsSolve words o f → IsSolve words p g → (o ≡ p) × (f ≡ g)
-names_same words o f p g a b = six_same _ o _ f _ _ _ p _ g _ _ (sym a.words_are ∙ b.words_are)
+names_same words o f p g a b = two_same o f p g (sym a.words_are ∙ b.words_are)
 
 -- two readings of one name, where the files are told, give the same bytes
 one_reading : (o : Option Bytes) (b c : Bytes) → IsSome o → IfSome o (λ file. b ≡ file) → IfSome o (λ file. c ≡ file) → b ≡ c
@@ -126,6 +165,9 @@ some_none e = cc
 some_none_offers : {offers : Offers} → Some offers ≡ None → ⊥
 some_none_offers e = cc
 
+some_none_asked : {command : Asked} → Some command ≡ None → ⊥
+some_none_asked e = cc
+
 some_orders : (p q : Order) → Some p ≡ Some q → p ≡ q
 some_orders p q e = cc
 
@@ -145,7 +187,7 @@ same_order a w name other p q told e s t =
     some_orders p q (sym s.stated ∙ ap plain_order same ∙ t.stated)
 
 not_unbuilt : (a : Bool) (w : World) (words : List Name) → IsJobGiven a w words → IsNotBuilt a w words → ⊥
-not_unbuilt a w words j (inl no_words) = no_words j.orders_name j.offers_name j.is_solve
+not_unbuilt a w words j (inl other) = other.no_solve j.orders_name j.offers_name j.is_solve
 not_unbuilt a w words j (inr (inl none)) =
     let names = names_same words j.orders_name j.offers_name none.orders_name none.offers_name j.is_solve none.is_solve in
     no_order a w j.orders_name none.orders_name j.order j.told names.0 j.orders_stated none.not_stated
@@ -155,17 +197,63 @@ not_unbuilt a w words j (inr (inr none)) =
     no_offers a w j.offers_name none.offers_name none.order.part j.offers j.told names.1
     (subst (λ (o : Order). StatesOffers a w j.offers_name o.part j.offers) order j.offers_stated) none.not_stated
 
+solve_is_form : (words : List Name) (o f : Name) → IsSolve words o f → IsNoForm words → ⊥
+solve_is_form words o f s none = some_none_asked (sym s.words_are ∙ none)
+
+solve_is_no_needs : (words : List Name) (o f p : Name) (b : Option Name) → IsSolve words o f → IsNeeds words p b → ⊥
+solve_is_no_needs words o f p b s n = solve_or_needs (sym s.words_are ∙ n.words_are) where
+  solve_or_needs : Some (ToSolve (two_files o f) None None) ≡ Some (ToNeed p b) → ⊥
+  solve_or_needs e = cc
+
+needs_is_form : (words : List Name) (o : Name) (b : Option Name) → IsNeeds words o b → IsNoForm words → ⊥
+needs_is_form words o b n none = some_none_asked (sym n.words_are ∙ none)
+
+rose_unread : (a : Bool) (old new : State) (orders_name : Name) (bill_name : Option Name) (file : InputFile) → IsUnreadBill a old new orders_name bill_name file → Rose old.faults.reading new.faults.reading
+rose_unread a old new orders_name bill_name file (at_orders f) = f.rose
+rose_unread a old new orders_name bill_name file (at_bill orders given f) = f.rose
+
+rose_solve_fault : (a : Bool) (old new : State) (words : List Name) (file : InputFile) (text : Bytes) → IsReadFault a old new words file text → Rose old.faults.reading new.faults.reading
+rose_solve_fault a old new words Orders text f = f.0.fails.rose
+rose_solve_fault a old new words OffersFile text f = f.0.fails.rose
+rose_solve_fault a old new words Bill text f = absurd f
+rose_solve_fault a old new words Terms text f = absurd f
+rose_solve_fault a old new words TreeFile text f = absurd f
+
+-- each fault of reading was counted
+rose_fault : (a : Bool) (old new : State) (words : List Name) (file : InputFile) (text : Bytes)
+    → IsReadFault a old new words file text ⊎ IsNeedsFound a old new words (ReadFault file) text → Rose old.faults.reading new.faults.reading
+rose_fault a old new words file text (inl f) = rose_solve_fault a old new words file text f
+rose_fault a old new words file text (inr f) = rose_unread a old new f.orders_name f.bill_name file f.answers.unread
+
 -- plain files without a fault bring an answer to the job, or the want of memory
 pub answers_job : (a : Bool) (old new : State) (words : List Name) (answer : Answer) → IsJobGiven a old.world words → IsFaultless old new
     → HasCause a old new words answer → IsAnswerToJob answer
 answers_job a old new words (Solved plan amount) j f c = tt
 answers_job a old new words Infeasible j f c = tt
 answers_job a old new words Memory j f c = tt
+answers_job a old new words Listed j f c = solve_is_no_needs words j.orders_name j.offers_name c.found.orders_name c.found.bill_name j.is_solve c.found.is_needs
+answers_job a old new words Words j f c = solve_is_form words j.orders_name j.offers_name j.is_solve c.found.0
+answers_job a old new words (BadInput fault) j f c = solve_is_no_needs words j.orders_name j.offers_name c.found.orders_name c.found.bill_name j.is_solve c.found.is_needs
 answers_job a old new words NotBuilt j f c = not_unbuilt a old.world words j c.found.0
-answers_job a old new words (ReadFault Orders) j f c = f.reading c.found.0.fails.rose
-answers_job a old new words (ReadFault OffersFile) j f c = f.reading c.found.0.fails.rose
-answers_job a old new words (ReadFault Bill) j f c = c.found
-answers_job a old new words (ReadFault Terms) j f c = c.found
-answers_job a old new words (ReadFault TreeFile) j f c = c.found
+answers_job a old new words (ReadFault file) j f c = f.reading (rose_fault a old new words file c.text c.found)
 answers_job a old new words (WriteFault Out) j f c = f.printing c.0
 answers_job a old new words (WriteFault Tree) j f c = c
+
+needs_not_unbuilt : (a : Bool) (w : World) (words : List Name) (o : Name) (b : Option Name) → IsNeeds words o b → IsNotBuilt a w words → ⊥
+needs_not_unbuilt a w words o b n (inl other) = other.no_needs o b n
+needs_not_unbuilt a w words o b n (inr (inl none)) = solve_is_no_needs words none.orders_name none.offers_name o b none.is_solve n
+needs_not_unbuilt a w words o b n (inr (inr none)) = solve_is_no_needs words none.orders_name none.offers_name o b none.is_solve n
+
+-- without a fault `needs` brings one of its answers
+pub answers_needs : (a : Bool) (old new : State) (words : List Name) (o : Name) (b : Option Name) (answer : Answer) → IsNeeds words o b → IsFaultless old new
+    → HasCause a old new words answer → IsAnswerToNeeds answer
+answers_needs a old new words o b (Solved plan amount) n f c = solve_is_no_needs words c.found.orders_name c.found.offers_name o b c.found.is_solve n
+answers_needs a old new words o b Infeasible n f c = solve_is_no_needs words c.found.orders_name c.found.offers_name o b c.found.is_solve n
+answers_needs a old new words o b Memory n f c = tt
+answers_needs a old new words o b Listed n f c = tt
+answers_needs a old new words o b Words n f c = needs_is_form words o b n c.found.0
+answers_needs a old new words o b (BadInput fault) n f c = tt
+answers_needs a old new words o b NotBuilt n f c = needs_not_unbuilt a old.world words o b n c.found.0
+answers_needs a old new words o b (ReadFault file) n f c = f.reading (rose_fault a old new words file c.text c.found)
+answers_needs a old new words o b (WriteFault Out) n f c = f.printing c.0
+answers_needs a old new words o b (WriteFault Tree) n f c = c

@@ -5,7 +5,7 @@ use Rattle.tqd_base.specs.declared.limits.TheConstants.{FILE_MAX}
 use Rattle.tqd_base.specs.World.{World, State, Name, Bytes, bytes_at}
 use Rattle.tqd_base.specs.Calls.{FailsReading}
 use Rattle.tqd_base.specs.ReadAll.{IsWhole, IsTooLong}
-use Rattle.tqd_top.specs.Answers.{ReadsAs}
+use Rattle.tqd_top.specs.Reads.{ReadsAs}
 use Rattle.tqd_top.specs.FileRead.{IsLong, FailsToRead}
 use Rattle.std.proofs.lemmas.List.{length-replicate}
 

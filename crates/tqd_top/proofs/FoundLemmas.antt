@@ -10,13 +10,14 @@ use Rattle.std.specs.Option.{option_map}
 use Rattle.std.proofs.lemmas.Bool.{leb-true}
 use Rattle.tqd_instance.specs.declared.parts.PriceRow.{PriceRow}
 use Rattle.std.proofs.lemmas.Option.{option_and_then_some}
-use Rattle.tqd_top.specs.declared.answer.InputFile.TheVariants.{Orders, Bill, Offers as OffersFile, Terms, Tree as TreeFile}
+use Rattle.plan_report.specs.declared.file.InputFile.TheVariants.{Orders, Bill, Offers as OffersFile, Terms, Tree as TreeFile}
 use Rattle.tqd_top.specs.declared.answer.Answer.{Answer}
-use Rattle.tqd_top.specs.declared.answer.Answer.TheVariants.{Solved, Infeasible, NotBuilt, ReadFault, WriteFault, Memory}
+use Rattle.tqd_top.specs.declared.answer.Answer.TheVariants.{Solved, Infeasible, Listed, Words, BadInput, NotBuilt, ReadFault, WriteFault, Memory}
 use Rattle.tqd_top.specs.declared.answer.Found.{Found}
 use Rattle.tqd_top.specs.PlainRows.{AreRows}
 use Rattle.tqd_top.specs.Plain.{Order, Offers, order_line, order_of, behind, cut, offers_of, offer_lines, plain_order, plain_offers, within_limit, is_plain_name, same}
-use Rattle.tqd_top.specs.Answers.{ReadsAs, StatesOrder, StatesNoOrder, StatesNoOffers, FailsAt, IsFound, FailsOnlyInputs}
+use Rattle.tqd_top.specs.Answers.{StatesOrder, StatesNoOrder, StatesNoOffers, IsFound, FailsOnlyInputs}
+use Rattle.tqd_top.specs.Reads.{ReadsAs, FailsAt}
 use Rattle.tqd_top.specs.Words.{IsSolve}
 use Rattle.tqd_top.specs.FileRead.{IsLong, FailsToRead}
 use Rattle.tqd_top.specs.Finds.{IsQuiet, BytesAnswer, OffersAnswer, OffersOf, NamesAnswer}
@@ -109,6 +110,9 @@ by_bytes : (a : Bool) (old new : State) (name : Name) (order : Order) (bytes : B
     → BytesAnswer order bytes answer text → OffersAnswer a old new name order answer text
 by_bytes a old new name order bytes (Solved plan amount) text reads b = record { offers = b.offers; stated = record { bytes = bytes; reads = reads; stated = b.stated }; decides = b.decides }
 by_bytes a old new name order bytes Infeasible text reads b = record { offers = b.offers; stated = record { bytes = bytes; reads = reads; stated = b.stated }; decides = b.decides }
+by_bytes a old new name order bytes Listed text reads b = absurd b
+by_bytes a old new name order bytes Words text reads b = absurd b
+by_bytes a old new name order bytes (BadInput fault) text reads b = absurd b
 by_bytes a old new name order bytes NotBuilt text reads b = (record { bytes = bytes; reads = reads; unstated = b.unstated }, b.text_is)
 by_bytes a old new name order bytes (ReadFault file) text reads b = absurd b
 by_bytes a old new name order bytes (WriteFault target) text reads b = absurd b
@@ -130,7 +134,7 @@ rose_later : (a b c : ℕ) → a ≤ b → Rose b c → Rose a c
 unfolding Rose
 rose_later a b c le rose = omega arith
 
-fails_later : (old mid new : State) (name : Name) → Rests old mid → FailsAt mid new name → FailsAt old new name
+pub fails_later : (old mid new : State) (name : Name) → Rests old mid → FailsAt mid new name → FailsAt old new name
 fails_later old mid new name r f = record {
   rose = rose_later old.faults.reading mid.faults.reading new.faults.reading r.never_fall.reading f.rose;
   named = λ told. f.named (subst (λ (w : World). IsSome w.files) (sym r.world) told);
@@ -162,6 +166,9 @@ by_offers a old mid new orders offers order (Solved plan amount) text r stated b
     record { order = order; stated = stated; offers_answer = subst (λ (w : World). OffersOf a w offers order (Solved plan amount) text) r.world b }
 by_offers a old mid new orders offers order Infeasible text r stated b =
     record { order = order; stated = stated; offers_answer = subst (λ (w : World). OffersOf a w offers order Infeasible text) r.world b }
+by_offers a old mid new orders offers order Listed text r stated b = absurd b
+by_offers a old mid new orders offers order Words text r stated b = absurd b
+by_offers a old mid new orders offers order (BadInput fault) text r stated b = absurd b
 by_offers a old mid new orders offers order NotBuilt text r stated b =
     (inr (record { order = order; stated = stated; unstated = subst (λ (w : World). StatesNoOffers a w offers order.part) r.world b.0 }), b.1)
 by_offers a old mid new orders offers order (ReadFault OffersFile) text r stated b = (record { order = order; stated = stated; fails = fails_later old mid new offers r b.0 }, b.1)
@@ -200,6 +207,9 @@ by_names a old new words orders offers Infeasible text w b = record {
   offers_stated = b.offers_answer.stated;
   decides = b.offers_answer.decides;
 }
+by_names a old new words orders offers Listed text w b = absurd b
+by_names a old new words orders offers Words text w b = absurd b
+by_names a old new words orders offers (BadInput fault) text w b = absurd b
 by_names a old new words orders offers NotBuilt text w b = (
   inr (elim b.0 [
     | inl none ↦ inl (record { orders_name = orders; offers_name = offers; is_solve = w; not_stated = none })
@@ -207,9 +217,9 @@ by_names a old new words orders offers NotBuilt text w b = (
   ]),
   b.1,
 )
-by_names a old new words orders offers (ReadFault Orders) text w b = (record { orders_name = orders; offers_name = offers; is_solve = w; fails = b.0 }, b.1)
+by_names a old new words orders offers (ReadFault Orders) text w b = inl (record { orders_name = orders; offers_name = offers; is_solve = w; fails = b.0 }, b.1)
 by_names a old new words orders offers (ReadFault OffersFile) text w b =
-    (record { orders_name = orders; offers_name = offers; is_solve = w; order = b.0.order; orders_stated = b.0.stated; fails = b.0.fails }, b.1)
+    inl (record { orders_name = orders; offers_name = offers; is_solve = w; order = b.0.order; orders_stated = b.0.stated; fails = b.0.fails }, b.1)
 by_names a old new words orders offers (ReadFault Bill) text w b = absurd b
 by_names a old new words orders offers (ReadFault Terms) text w b = absurd b
 by_names a old new words orders offers (ReadFault TreeFile) text w b = absurd b
@@ -225,7 +235,7 @@ pub inputs_of_quiet : (old new : State) (words : List Name) (orders offers : Nam
 inputs_of_quiet old new words orders offers w q = λ told. elim (q.named told) [
   | inl kept ↦ inl kept
   | inr one ↦ elim one [
-    | inl first ↦ inr (orders, record { orders_name = orders; offers_name = offers; is_solve = w; one = inl refl }, first)
-    | inr second ↦ inr (offers, record { orders_name = orders; offers_name = offers; is_solve = w; one = inr refl }, second)
+    | inl first ↦ inr (orders, inl (record { orders_name = orders; offers_name = offers; is_solve = w; one = inl refl }), first)
+    | inr second ↦ inr (offers, inl (record { orders_name = orders; offers_name = offers; is_solve = w; one = inr refl }), second)
   ]
 ]

@@ -1,3 +1,5 @@
+pub mod BillFiles
+pub mod NeedsLemmas
 pub mod Causes
 pub mod FileReads
 pub mod FoundLemmas

@@ -8,7 +8,8 @@ use Rattle.tqd_instance.specs.Sum.{sum_to}
 use Rattle.tqd_instance.specs.Job.{low, price, pick, fee}
 use Rattle.tqd_instance.specs.Purchase.{Purchase, total}
 use Rattle.tqd_instance.specs.Cost.{cost, goods_cost, fee_cost, selected}
-use Rattle.tqd_top.specs.PlanText.{line, texts_to, buy_text, supplier_text, plan_text}
+use Rattle.plan_report.specs.Lines.{line, texts_to}
+use Rattle.plan_report.specs.PlanText.{buy_line, buy_text, fee_text, supplier_text, plan_text}
 use Rattle.tqd_top.specs.OneJob.{IsOne}
 use Rattle.tqd_top.specs.OneText.{one_text}
 use Rattle.tqd_top.proofs.OneSupplier.{total_one, sum_to_one}
@@ -50,14 +51,14 @@ selected_one job n x o e = ap (λ (t : ℕ). unwrap_or (pick job 0 t) 0) (total_
 
 buy_one : (job : Job) (n : ℕ) (x : Purchase) (part : Bytes) → IsOne job n → x 0 0 ≡ n → 1 ≤ n
     → buy_text job x (λ _. part) 0 0 ≡ line (codes "buy") (part ∷ decimal n ∷ cost_text (price job 0 (unwrap_or (pick job 0 n) 0) 0) ∷ cost_text (n * price job 0 (unwrap_or (pick job 0 n) 0) 0) ∷ [])
-unfolding buy_text
+unfolding buy_text buy_line
 buy_one job n x part o e some = rw (e, selected_one job n x o e, is_zero n some) refl
 
 supplier_one : (job : Job) (n : ℕ) (x : Purchase) (part supplier : Bytes) → IsOne job n → x 0 0 ≡ n → 1 ≤ n
     → supplier_text job x (λ _. part) (λ _. supplier) 0
     ≡ line (codes "supplier") (supplier ∷ decimal n ∷ decimal (low job 0 (unwrap_or (pick job 0 n) 0)) ∷ cost_text (n * price job 0 (unwrap_or (pick job 0 n) 0) 0) ∷ [])
     ++ [] ++ buy_text job x (λ _. part) 0 0
-unfolding supplier_text
+unfolding supplier_text fee_text
 supplier_one job n x part supplier o e some =
     let sum : goods_cost job x 0 ≡ n * price job 0 (unwrap_or (pick job 0 n) 0) 0 =
     goods_cost_one job n x o ∙ ap (λ (u : ℕ). u * price job 0 (selected job x 0) 0) e ∙ ap (λ (j : ℕ). n * price job 0 j 0) (selected_one job n x o e) in

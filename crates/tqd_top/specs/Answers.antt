@@ -1,14 +1,17 @@
 -- The answer that the words and the files call for, and what is printed for it.
-use Rattle.std.specs.Prelude.{ℕ, ◌≡◌, ◌⊎◌, ◌≤◌, ◌++◌, Bool, List, [], ◌∷◌, length, take, codes, Some, None, IsSome, IfSome}
-use Rattle.tqd_base.specs.World.{World, State, Name, Bytes, Rose, IsReadable, bytes_at, print}
+use Rattle.std.specs.Prelude.{ℕ, ◌≡◌, ◌⊎◌, ◌≤◌, ◌++◌, Bool, List, [], ◌∷◌, length, take, codes, Option, Some, None, IsSome}
+use Rattle.tqd_base.specs.World.{World, State, Name, Bytes, Rose, print}
 use Rattle.tqd_instance.specs.declared.job.Job.{Job}
 use Rattle.tqd_instance.specs.Built.{IsJobOf}
-use Rattle.tqd_top.specs.declared.answer.InputFile.{InputFile}
-use Rattle.tqd_top.specs.declared.answer.InputFile.TheVariants.{Orders, Bill, Offers as OffersFile, Terms, Tree as TreeFile}
+use Rattle.plan_report.specs.declared.file.InputFile.{InputFile}
+use Rattle.plan_report.specs.declared.file.InputFile.TheVariants.{Orders, Bill, Offers as OffersFile, Terms, Tree as TreeFile}
 use Rattle.tqd_top.specs.declared.answer.Target.TheVariants.{Tree, Out}
 use Rattle.tqd_top.specs.declared.answer.Answer.{Answer}
-use Rattle.tqd_top.specs.declared.answer.Answer.TheVariants.{Solved, Infeasible, NotBuilt, ReadFault, WriteFault, Memory}
-use Rattle.tqd_top.specs.Words.{IsSolve}
+use Rattle.tqd_top.specs.declared.answer.Answer.TheVariants.{Solved, Infeasible, Listed, Words, BadInput, NotBuilt, ReadFault, WriteFault, Memory}
+use Rattle.tqd_top.specs.Reads.{ReadsAs, FailsAt}
+use Rattle.tqd_top.specs.Words.{IsSolve, IsNeeds, IsNoForm, IsOtherForm}
+use Rattle.plan_report.specs.Usage.{usage_text}
+use Rattle.tqd_top.specs.NeedsAnswer.{NeedsAnswers}
 use Rattle.tqd_top.specs.Plain.{Order, Offers, plain_order, plain_offers, parts_of}
 use Rattle.tqd_top.specs.JobDecides.{JobDecides}
 
@@ -16,15 +19,13 @@ use Rattle.tqd_top.specs.JobDecides.{JobDecides}
 abbrev pub status_of : Answer → ℕ
 status_of (Solved plan amount) = 0
 status_of Infeasible = 1
+status_of Listed = 0
+status_of Words = 2
+status_of (BadInput fault) = 3
 status_of (ReadFault file) = 5
 status_of (WriteFault target) = 6
 status_of Memory = 7
 status_of NotBuilt = 8
-
--- reading a name gives these bytes: where told, those of the file
-pub record ReadsAs (absent_is_empty : Bool) (w : World) (name : Name) (bytes : Bytes) : Type 0 where
-  pub readable : IsReadable absent_is_empty w name
-  pub all : IfSome (bytes_at w name) (λ file. bytes ≡ file)
 
 -- the file of this name is plain, and states this order
 pub record StatesOrder (absent_is_empty : Bool) (w : World) (name : Name) (order : Order) : Type 0 where
@@ -70,10 +71,7 @@ pub record IsDecided (absent_is_empty : Bool) (w : World) (words : List Name) (a
   pub offers_stated : StatesOffers absent_is_empty w offers_name order.part offers
   pub decides : Decides order offers answer text
 
--- the first reason why there is no job: the words, the orders, the offers
-abbrev pub IsNotSolve : List Name → Type 0
-IsNotSolve words = (orders offers : Name) → IsSolve words orders offers → ⊥
-
+-- the first reason why there is no job: another command, the orders, the offers
 pub record HasNoOrder (absent_is_empty : Bool) (w : World) (words : List Name) : Type 0 where
   pub orders_name : Name
   pub offers_name : Name
@@ -89,12 +87,7 @@ pub record HasNoOffers (absent_is_empty : Bool) (w : World) (words : List Name) 
   pub not_stated : StatesNoOffers absent_is_empty w offers_name order.part
 
 abbrev pub IsNotBuilt : Bool → World → List Name → Type 0
-IsNotBuilt absent_is_empty w words = IsNotSolve words ⊎ (HasNoOrder absent_is_empty w words ⊎ HasNoOffers absent_is_empty w words)
-
--- the count of reading faults rose, and where the files are told the name that failed last is this one
-pub record FailsAt (old new : State) (name : Name) : Type 0 where
-  pub rose : Rose old.faults.reading new.faults.reading
-  pub named : IsSome old.world.files → new.failed_last ≡ Some name
+IsNotBuilt absent_is_empty w words = IsOtherForm words ⊎ (HasNoOrder absent_is_empty w words ⊎ HasNoOffers absent_is_empty w words)
 
 pub record OrdersFail (old new : State) (words : List Name) : Type 0 where
   pub orders_name : Name
@@ -117,12 +110,22 @@ IsReadFault absent_is_empty old new words Bill text = ⊥
 IsReadFault absent_is_empty old new words Terms text = ⊥
 IsReadFault absent_is_empty old new words TreeFile text = ⊥
 
+-- the words are a `needs`, and its files call for this answer
+pub record IsNeedsFound (absent_is_empty : Bool) (old new : State) (words : List Name) (answer : Answer) (text : Bytes) : Type 0 where
+  pub orders_name : Name
+  pub bill_name : Option Name
+  pub is_needs : IsNeeds words orders_name bill_name
+  pub answers : NeedsAnswers absent_is_empty old new orders_name bill_name answer text
+
 -- an answer and its text, with the cause that it has
 abbrev pub IsFound : Bool → State → State → List Name → Answer → Bytes → Type 0
 IsFound absent_is_empty old new words (Solved plan amount) text = IsDecided absent_is_empty old.world words (Solved plan amount) text
 IsFound absent_is_empty old new words Infeasible text = IsDecided absent_is_empty old.world words Infeasible text
+IsFound absent_is_empty old new words Listed text = IsNeedsFound absent_is_empty old new words Listed text
+IsFound absent_is_empty old new words Words text = IsNoForm words × (text ≡ usage_text)
 IsFound absent_is_empty old new words NotBuilt text = IsNotBuilt absent_is_empty old.world words × (text ≡ codes "not built" ++ 10 ∷ [])
-IsFound absent_is_empty old new words (ReadFault file) text = IsReadFault absent_is_empty old new words file text
+IsFound absent_is_empty old new words (BadInput fault) text = IsNeedsFound absent_is_empty old new words (BadInput fault) text
+IsFound absent_is_empty old new words (ReadFault file) text = IsReadFault absent_is_empty old new words file text ⊎ IsNeedsFound absent_is_empty old new words (ReadFault file) text
 IsFound absent_is_empty old new words (WriteFault target) text = ⊥
 IsFound absent_is_empty old new words Memory text = ⊥
 
@@ -145,6 +148,9 @@ pub record IsCutOff (absent_is_empty : Bool) (old new : State) (words : List Nam
 abbrev pub HasCause : Bool → State → State → List Name → Answer → Type 0
 HasCause absent_is_empty old new words (Solved plan amount) = IsPrinted absent_is_empty old new words (Solved plan amount)
 HasCause absent_is_empty old new words Infeasible = IsPrinted absent_is_empty old new words Infeasible
+HasCause absent_is_empty old new words Listed = IsPrinted absent_is_empty old new words Listed
+HasCause absent_is_empty old new words (BadInput fault) = IsPrinted absent_is_empty old new words (BadInput fault)
+HasCause absent_is_empty old new words Words = IsPrinted absent_is_empty old new words Words
 HasCause absent_is_empty old new words NotBuilt = IsPrinted absent_is_empty old new words NotBuilt
 HasCause absent_is_empty old new words (ReadFault file) = IsPrinted absent_is_empty old new words (ReadFault file)
 HasCause absent_is_empty old new words (WriteFault Out) = Rose old.faults.printing new.faults.printing × IsCutOff absent_is_empty old new words
@@ -152,11 +158,20 @@ HasCause absent_is_empty old new words (WriteFault Tree) = ⊥
 HasCause absent_is_empty old new words Memory = (new.world ≡ old.world) ⊎ IsCutOff absent_is_empty old new words
 
 -- a name that the command reads
-pub record IsInput (words : List Name) (name : Name) : Type 0 where
+pub record IsSolveInput (words : List Name) (name : Name) : Type 0 where
   pub orders_name : Name
   pub offers_name : Name
   pub is_solve : IsSolve words orders_name offers_name
   pub one : (name ≡ orders_name) ⊎ (name ≡ offers_name)
+
+pub record IsNeedsInput (words : List Name) (name : Name) : Type 0 where
+  pub orders_name : Name
+  pub bill_name : Option Name
+  pub is_needs : IsNeeds words orders_name bill_name
+  pub one : (name ≡ orders_name) ⊎ (Some name ≡ bill_name)
+
+abbrev pub IsInput : List Name → Name → Type 0
+IsInput words name = IsSolveInput words name ⊎ IsNeedsInput words name
 
 -- where the files are told, the name whose reading failed last is as it was, or one that the command reads
 abbrev pub FailsOnlyInputs : State → State → List Name → Type 0
@@ -167,9 +182,24 @@ abbrev pub IsAnswerToJob : Answer → Type 0
 IsAnswerToJob (Solved plan amount) = Unit {0}
 IsAnswerToJob Infeasible = Unit {0}
 IsAnswerToJob Memory = Unit {0}
+IsAnswerToJob Listed = ⊥
+IsAnswerToJob Words = ⊥
+IsAnswerToJob (BadInput fault) = ⊥
 IsAnswerToJob NotBuilt = ⊥
 IsAnswerToJob (ReadFault file) = ⊥
 IsAnswerToJob (WriteFault target) = ⊥
+
+-- an answer to `needs`
+abbrev pub IsAnswerToNeeds : Answer → Type 0
+IsAnswerToNeeds (Solved plan amount) = ⊥
+IsAnswerToNeeds Infeasible = ⊥
+IsAnswerToNeeds Listed = Unit {0}
+IsAnswerToNeeds Words = ⊥
+IsAnswerToNeeds (BadInput fault) = Unit {0}
+IsAnswerToNeeds NotBuilt = ⊥
+IsAnswerToNeeds (ReadFault file) = ⊥
+IsAnswerToNeeds (WriteFault target) = ⊥
+IsAnswerToNeeds Memory = Unit {0}
 
 -- the words name two plain files that state a job
 pub record IsJobGiven (absent_is_empty : Bool) (w : World) (words : List Name) : Type 0 where

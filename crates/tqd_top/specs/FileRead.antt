@@ -6,7 +6,7 @@ use Rattle.tqd_base.specs.World.{State, Name, Bytes, NeverFall}
 use Rattle.tqd_base.specs.Calls.{Rests}
 use Rattle.tqd_top.specs.declared.read.FileRead.{FileRead}
 use Rattle.tqd_top.specs.declared.read.FileRead.TheVariants.{Whole, TooLong, Fault}
-use Rattle.tqd_top.specs.Answers.{ReadsAs, FailsAt}
+use Rattle.tqd_top.specs.Reads.{ReadsAs, FailsAt}
 
 -- the file has more bytes than are read
 pub record IsLong (absent_is_empty : Bool) (old : State) (name : Name) : Type 0 where

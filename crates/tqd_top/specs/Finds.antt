@@ -1,11 +1,12 @@
 -- What is found from the bytes of the files, step by step.
 use Rattle.std.specs.Prelude.{◌≡◌, ◌⊎◌, ◌++◌, [], ◌∷◌, Bool, Some, None, IsSome, codes}
 use Rattle.tqd_base.specs.World.{World, State, Name, Bytes, NeverFall}
-use Rattle.tqd_top.specs.declared.answer.InputFile.TheVariants.{Orders, Bill, Offers as OffersFile, Terms, Tree as TreeFile}
+use Rattle.plan_report.specs.declared.file.InputFile.TheVariants.{Orders, Bill, Offers as OffersFile, Terms, Tree as TreeFile}
 use Rattle.tqd_top.specs.declared.answer.Answer.{Answer}
-use Rattle.tqd_top.specs.declared.answer.Answer.TheVariants.{Solved, Infeasible, NotBuilt, ReadFault, WriteFault, Memory}
+use Rattle.tqd_top.specs.declared.answer.Answer.TheVariants.{Solved, Infeasible, Listed, Words, BadInput, NotBuilt, ReadFault, WriteFault, Memory}
 use Rattle.tqd_top.specs.Plain.{Order, Offers, plain_offers}
-use Rattle.tqd_top.specs.Answers.{Decides, StatesOrder, StatesOffers, StatesNoOrder, StatesNoOffers, FailsAt}
+use Rattle.tqd_top.specs.Answers.{Decides, StatesOrder, StatesOffers, StatesNoOrder, StatesNoOffers}
+use Rattle.tqd_top.specs.Reads.{FailsAt}
 
 -- the text that stands for 'not built'
 abbrev pub not_built_text : Bytes
@@ -31,6 +32,9 @@ pub record OffersUnstated (order : Order) (bytes : Bytes) (text : Bytes) : Type 
 abbrev pub BytesAnswer : Order → Bytes → Answer → Bytes → Type 0
 BytesAnswer order bytes (Solved plan amount) text = OffersDecide order bytes (Solved plan amount) text
 BytesAnswer order bytes Infeasible text = OffersDecide order bytes Infeasible text
+BytesAnswer order bytes Listed text = ⊥
+BytesAnswer order bytes Words text = ⊥
+BytesAnswer order bytes (BadInput fault) text = ⊥
 BytesAnswer order bytes NotBuilt text = OffersUnstated order bytes text
 BytesAnswer order bytes (ReadFault file) text = ⊥
 BytesAnswer order bytes (WriteFault target) text = ⊥
@@ -45,6 +49,9 @@ pub record OffersOf (absent_is_empty : Bool) (w : World) (name : Name) (order : 
 abbrev pub OffersAnswer : Bool → State → State → Name → Order → Answer → Bytes → Type 0
 OffersAnswer absent_is_empty old new name order (Solved plan amount) text = OffersOf absent_is_empty old.world name order (Solved plan amount) text
 OffersAnswer absent_is_empty old new name order Infeasible text = OffersOf absent_is_empty old.world name order Infeasible text
+OffersAnswer absent_is_empty old new name order Listed text = ⊥
+OffersAnswer absent_is_empty old new name order Words text = ⊥
+OffersAnswer absent_is_empty old new name order (BadInput fault) text = ⊥
 OffersAnswer absent_is_empty old new name order NotBuilt text = StatesNoOffers absent_is_empty old.world name order.part × (text ≡ not_built_text)
 OffersAnswer absent_is_empty old new name order (ReadFault OffersFile) text = FailsAt old new name × (text ≡ codes "cannot read offers" ++ 10 ∷ [])
 OffersAnswer absent_is_empty old new name order (ReadFault Orders) text = ⊥
@@ -73,6 +80,9 @@ pub record OffersFailAt (absent_is_empty : Bool) (old new : State) (orders offer
 abbrev pub NamesAnswer : Bool → State → State → Name → Name → Answer → Bytes → Type 0
 NamesAnswer absent_is_empty old new orders offers (Solved plan amount) text = DecidesNames absent_is_empty old.world orders offers (Solved plan amount) text
 NamesAnswer absent_is_empty old new orders offers Infeasible text = DecidesNames absent_is_empty old.world orders offers Infeasible text
+NamesAnswer absent_is_empty old new orders offers Listed text = ⊥
+NamesAnswer absent_is_empty old new orders offers Words text = ⊥
+NamesAnswer absent_is_empty old new orders offers (BadInput fault) text = ⊥
 NamesAnswer absent_is_empty old new orders offers NotBuilt text =
     (StatesNoOrder absent_is_empty old.world orders ⊎ NoOffersFor absent_is_empty old.world orders offers) × (text ≡ not_built_text)
 NamesAnswer absent_is_empty old new orders offers (ReadFault Orders) text = FailsAt old new orders × (text ≡ codes "cannot read orders" ++ 10 ∷ [])

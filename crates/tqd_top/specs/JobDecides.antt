@@ -7,8 +7,8 @@ use Rattle.tqd_instance.specs.Plan.{IsSizedFor, units}
 use Rattle.tqd_instance.specs.Cost.{cost}
 use Rattle.tqd_instance.specs.Least.{Least, HasNoPurchase}
 use Rattle.tqd_top.specs.declared.answer.Answer.{Answer}
-use Rattle.tqd_top.specs.declared.answer.Answer.TheVariants.{Solved, Infeasible, NotBuilt, ReadFault, WriteFault, Memory}
-use Rattle.tqd_top.specs.PlanText.{plan_text}
+use Rattle.tqd_top.specs.declared.answer.Answer.TheVariants.{Solved, Infeasible, Listed, Words, BadInput, NotBuilt, ReadFault, WriteFault, Memory}
+use Rattle.plan_report.specs.PlanText.{plan_text}
 
 -- a least plan of the job, its cost and its text
 pub record SolvesJob (job : Job) (part supplier : Bytes) (plan : Plan) (amount : ℕ) (text : Bytes) : Type 0 where
@@ -24,6 +24,9 @@ pub record RefutesJob (job : Job) (text : Bytes) : Type 0 where
 abbrev pub JobDecides : Job → Bytes → Bytes → Answer → Bytes → Type 0
 JobDecides job part supplier (Solved plan amount) text = SolvesJob job part supplier plan amount text
 JobDecides job part supplier Infeasible text = RefutesJob job text
+JobDecides job part supplier Listed text = ⊥
+JobDecides job part supplier Words text = ⊥
+JobDecides job part supplier (BadInput fault) text = ⊥
 JobDecides job part supplier NotBuilt text = ⊥
 JobDecides job part supplier (ReadFault file) text = ⊥
 JobDecides job part supplier (WriteFault target) text = ⊥

@@ -1,6 +1,6 @@
 pub mod Words
+pub mod Reads
 pub mod Plain
-pub mod PlanText
 pub mod Rows
 pub mod OneText
 pub mod OneJob
@@ -10,3 +10,7 @@ pub mod Answers
 pub mod FileRead
 pub mod Finds
 pub mod Runs
+pub mod Listing
+pub mod Steps
+pub mod NeedsAnswer
+pub mod Halts

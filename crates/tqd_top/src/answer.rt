@@ -1,14 +1,5 @@
+use plan_report::{FileFault, InputFile};
 use tqd_instance::Plan;
-
-/// The files that a command reads.
-#[derive(Clone, Copy, Debug, PartialEq, Eq)]
-pub enum InputFile {
-    Orders,
-    Bill,
-    Offers,
-    Terms,
-    Tree,
-}
 
 /// Where a command writes: the file of the tree, or the output.
 #[derive(Clone, Copy, Debug, PartialEq, Eq)]
@@ -24,7 +15,13 @@ pub enum Answer {
     Solved(Plan, u128),
     /// There is no feasible purchase.
     Infeasible,
-    /// The words or the files are of a form that is not understood yet.
+    /// The needs of the goods of orders and a bill were printed.
+    Listed,
+    /// The words are of none of the forms.
+    Words,
+    /// The files have this fault, the first in the order in which they are read.
+    BadInput(FileFault),
+    /// The command or the files are of a form that is not understood yet.
     NotBuilt,
     /// A file could not be read.
     ReadFault(InputFile),

@@ -2,12 +2,13 @@ ghost use Rattle.std.specs.Prelude.{◌≡◌, ◌≤◌, ◌++◌, ◌∷◌, [
 ghost use Rattle.tqd_base.specs.declared.limits.TheConstants.{QTY_MAX};
 ghost use Rattle.tqd_top.specs.Finds.{IsQuiet, BytesAnswer, OffersAnswer, NamesAnswer};
 
-use crate::answer::{Answer, Found, InputFile};
+use crate::answer::{Answer, Found};
 use crate::offers::plain_offers;
 use crate::plain::{PlainOrder, plain_order};
 use crate::read::{FileRead, read_file};
 use crate::solve::solve;
 use crate::text::{add_word, end_line};
+use plan_report::InputFile;
 use std::alloc::Global;
 use tqd_base::{Desk, Memory};
 

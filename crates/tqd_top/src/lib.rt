@@ -3,6 +3,11 @@
 
 mod answer;
 mod find;
+mod halt;
+mod input;
+mod needs;
+#[cfg(test)]
+mod needs_tests;
 mod offers;
 mod parts;
 mod plain;
@@ -12,7 +17,10 @@ mod solve;
 #[cfg(test)]
 mod tests;
 mod text;
+#[cfg(test)]
+mod word_tests;
 mod words;
 
-pub use answer::{Answer, Ended, InputFile, Target};
+pub use answer::{Answer, Ended, Target};
 pub use run::run_plain;
+pub use words::{Command, JobFiles, read_words};

@@ -10,7 +10,7 @@ const ON_THE_STEP: &str =
     "solved\t8.000000\nsupplier\tA\t100\t100\t8.000000\nbuy\tr\t100\t0.080000\t8.000000\n";
 
 // The words of a command line.
-fn words_of(alloc: Global, line: &str) -> Result<Vec<String>, Fail> {
+pub(crate) fn words_of(alloc: Global, line: &str) -> Result<Vec<String>, Fail> {
     let mut words = Vec::new(alloc);
     for word in line.split(' ') {
         words.push(String::from_str(alloc, word)?)?;
@@ -94,28 +94,45 @@ fn prints_the_least_purchase(rt: HostRuntime) -> Result<(), Fail> {
     Ok(())
 }
 
+const USAGE: &str = "usage: tqd solve ORDERS BILL OFFERS TERMS TREE [--workers N]
+       tqd check ORDERS BILL OFFERS TERMS TREE
+       tqd needs ORDERS BILL
+       tqd make SEED GOODS SUPPLIERS
+";
+
 #[test]
 fn answers_other_words(rt: HostRuntime) -> Result<(), Fail> {
     let alloc = rt.alloc();
-    let lines = [
-        "solve o - f - tree",
-        "solve o b f - -",
-        "solve o - f t -",
-        "solve o - f -",
-        "solve o - f - - --workers",
-        "solve - - f - -",
-        "solve o - - - -",
-        "check o - f - -",
-        "needs o -",
+    let cases = [
+        ("solve o - f - tree", 8, "not built\n"),
+        ("solve o b f - -", 8, "not built\n"),
+        ("solve o - f t - --workers 2", 8, "not built\n"),
+        ("solve o - f - - --workers 1", 8, "not built\n"),
+        ("check o - f - tree", 8, "not built\n"),
+        ("make 1 1 1", 8, "not built\n"),
+        ("solve o - f", 2, USAGE),
+        ("solve o - f - tree --workers 65", 2, USAGE),
+        ("check o - f - -", 2, USAGE),
+        ("", 2, USAGE),
     ];
-    for line in lines {
+    for (line, status, text) in cases {
         // No file is there, so opening one would fail.
         let mut desk = MemoryDesk::new(alloc).map_err(|_| "memory")?;
         let words = words_of(alloc, line)?;
         let ended = run_plain(alloc, &words, &mut desk);
-        assert_eq!(rt; ended.status, 8, "at {line}");
-        assert_eq!(rt; desk.output(), b"not built\n".as_slice(), "at {line}");
+        assert_eq!(rt; ended.status, status, "at {line}");
+        assert_eq!(rt; desk.output(), text.as_bytes(), "at {line}");
     }
+    Ok(())
+}
+
+#[test]
+fn answers_no_words(rt: HostRuntime) -> Result<(), Fail> {
+    let alloc = rt.alloc();
+    let mut desk = MemoryDesk::new(alloc).map_err(|_| "memory")?;
+    let ended = run_plain(alloc, &[], &mut desk);
+    assert_eq!(rt; ended.status, 2);
+    assert_eq!(rt; desk.output(), USAGE.as_bytes());
     Ok(())
 }
 

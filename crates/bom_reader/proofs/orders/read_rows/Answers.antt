@@ -1,7 +1,5 @@
-use Rattle.std.proofs.Common.{◌+◌, sym, ◌∙◌, refl, arith}
+use Rattle.std.proofs.Common.{◌+◌, refl, arith}
 use Rattle.std.proofs.lemmas.Result.{err_from_is_err_and}
-use Rattle.bom_reader.specs.Faults.{Answers}
-use Rattle.bom_reader.specs.Orders.{orders_of}
 use Rattle.bom_reader.proofs.OrderFacts.{no-orders, more-orders, orders-stop, all-orders, are-orders}
 use Rattle.bom_reader.proofs.orders.read_rows.Goals as goal
 

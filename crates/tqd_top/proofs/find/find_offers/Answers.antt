@@ -1,9 +1,9 @@
 -- Each way to read the file has its answer.
 use Rattle.std.proofs.Common.{◌++◌, [], ◌∷◌, refl, subst, sym}
 use Rattle.std.specs.Prelude.{codes}
-use Rattle.tqd_top.specs.declared.answer.InputFile.TheVariants.{Offers as OffersFile}
+use Rattle.plan_report.specs.declared.file.InputFile.TheVariants.{Offers as OffersFile}
 use Rattle.tqd_top.specs.declared.answer.Answer.TheVariants.{NotBuilt, ReadFault}
-use Rattle.tqd_top.specs.Answers.{ReadsAs}
+use Rattle.tqd_top.specs.Reads.{ReadsAs}
 use Rattle.tqd_top.specs.Finds.{OffersAnswer, not_built_text}
 use Rattle.tqd_top.proofs.FoundLemmas.{quiet_rests, quiet_fails, offers_by_bytes, fixed, long_no_offers}
 use Rattle.tqd_top.proofs.find.find_offers.Goals as goal

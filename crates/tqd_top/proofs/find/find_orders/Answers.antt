@@ -1,9 +1,9 @@
 -- Each way to read the file of orders has its answer.
 use Rattle.std.proofs.Common.{◌++◌, [], ◌∷◌, refl, subst, sym, inl}
 use Rattle.std.specs.Prelude.{codes}
-use Rattle.tqd_top.specs.declared.answer.InputFile.TheVariants.{Orders}
+use Rattle.plan_report.specs.declared.file.InputFile.TheVariants.{Orders}
 use Rattle.tqd_top.specs.declared.answer.Answer.TheVariants.{NotBuilt, ReadFault}
-use Rattle.tqd_top.specs.Answers.{ReadsAs}
+use Rattle.tqd_top.specs.Reads.{ReadsAs}
 use Rattle.tqd_top.specs.Finds.{NamesAnswer, not_built_text}
 use Rattle.tqd_top.proofs.FoundLemmas.{quiet_rests, quiet_fails_first, quiet_after, names_by_offers, fixed, long_no_order, plain_order_need}
 use Rattle.tqd_top.proofs.find.find_orders.Goals as goal

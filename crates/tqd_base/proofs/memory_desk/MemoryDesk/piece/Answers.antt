@@ -5,5 +5,5 @@ use Rattle.tqd_base.proofs.memory_desk.MemoryDesk.piece.Goals as goal
 pub bound-requires : goal.bound-requires
 bound-requires c = c.requires
 
-pub returns : goal.returns
-returns c = same_state _ _ c.bound.ensures.world refl c.bound.ensures.failed
+pub returns-clause-state : goal.returns-clause-state
+returns-clause-state c = same_state _ _ c.bound.ensures.world refl c.bound.ensures.failed

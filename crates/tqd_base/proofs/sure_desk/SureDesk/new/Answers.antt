@@ -1,4 +1,4 @@
 use Rattle.tqd_base.proofs.sure_desk.SureDesk.new.Goals as goal
 
-pub returns : goal.returns
-returns c = c.new.ensures.world
+pub returns-clause-empty : goal.returns-clause-empty
+returns-clause-empty c = c.new.ensures.world

@@ -5,5 +5,5 @@ use Rattle.tqd_base.proofs.sure_desk.SureDesk.piece.Goals as goal
 pub bound-requires : goal.bound-requires
 bound-requires c = c.requires
 
-pub returns : goal.returns
-returns c = same_state _ _ c.bound.ensures.world refl refl
+pub returns-clause-state : goal.returns-clause-state
+returns-clause-state c = same_state _ _ c.bound.ensures.world refl refl

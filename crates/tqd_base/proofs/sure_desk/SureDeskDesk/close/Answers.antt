@@ -6,5 +6,5 @@ use Rattle.tqd_base.proofs.sure_desk.SureDeskDesk.close.Goals as goal
 pub end-requires : goal.end-requires
 end-requires c = c.requires
 
-pub returns : goal.returns
-returns c = record { world = c.end.ensures.world; kept = refl; never_fall = (same_faults (sure_state c.args.self.now).faults) }
+pub returns-clause-gives : goal.returns-clause-gives
+returns-clause-gives c = record { world = c.end.ensures.world; kept = refl; never_fall = (same_faults (sure_state c.args.self.now).faults) }

@@ -9,8 +9,8 @@ take-requires-clause-reads c = c.requires.reads
 pub take-requires-clause-room : goal.take-requires-clause-room
 take-requires-clause-room c = c.requires.room
 
-pub returns : goal.returns
-returns c = record {
+pub returns-clause-gives : goal.returns-clause-gives
+returns-clause-gives c = record {
   fits = c.take.ensures.fits;
   moves = c.take.ensures.moved;
   world = c.take.ensures.world;

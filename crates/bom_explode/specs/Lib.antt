@@ -1,0 +1,11 @@
+pub mod Structure
+pub mod Ways
+pub mod Below
+pub mod Chains
+pub mod Sum
+pub mod Needs
+pub mod Search
+pub mod Order
+pub mod Solution
+pub mod Explosion
+pub mod Laws

@@ -1,0 +1,11 @@
+pub mod Signed
+pub mod SignedSums
+pub mod PriceReads
+pub mod SegmentValues
+pub mod BoxPlaces
+pub mod Narrowing
+pub mod NarrowedValues
+pub mod Duality
+pub mod Soundness
+pub mod OneList
+pub mod HalfParts

@@ -1,0 +1,6 @@
+pub mod Sums
+pub mod Prices
+pub mod Value
+pub mod Asked
+pub mod Narrowed
+pub mod Kills

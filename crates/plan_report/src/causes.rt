@@ -1,0 +1,219 @@
+ghost use Rattle.std.specs.Prelude.{◌≡◌, ◌++◌, IfOk, OnOk};
+ghost use Rattle.plan_report.specs.FaultText.{IsExplodeFaultNamed, IsFaultNamed, IsJobFaultNamed, bill_cause, explode_cause, fault_cause, fault_file, fault_text, file_name, in_row, job_cause, no_price, rows_cause, size_cause, unread_text};
+
+use crate::fault::FileFault;
+use crate::file::InputFile;
+use crate::names::Names;
+use crate::text::{add_number, add_word};
+use bom_explode::ExplodeFault;
+use bom_reader::{BillFault, NameList};
+use csv_rows::RowFault;
+use std::alloc::Global;
+use tqd_base::Memory;
+use tqd_instance::JobFault;
+
+// The name of a file in a text.
+fn file_name(file: InputFile) -> &'static str
+    ensures { result.now ≡ file_name file }
+{
+    match file {
+        InputFile::Orders => "orders",
+        InputFile::Bill => "bill",
+        InputFile::Offers => "offers",
+        InputFile::Terms => "terms",
+        InputFile::Tree => "tree",
+    }
+}
+
+fn size_cause(file: InputFile) -> &'static str
+    ensures { result.now ≡ size_cause file }
+{
+    match file {
+        InputFile::Tree => "more than 4611686018427387904 bytes",
+        _ => "more than 16777216 bytes",
+    }
+}
+
+fn add_in_row(alloc: Global, text: &mut Vec<u8>, at: u64, cause: &str) -> Result<(), Memory>
+    ensures { OnOk result (text.new.items ≡ text.old.items ++ in_row at cause.now) }
+{
+    add_word(text, "row ")?;
+    add_number(alloc, text, at)?;
+    add_word(text, ": ")?;
+    add_word(text, cause)
+}
+
+#[tactic(auto, using(crate::proofs::Texts::appends))]
+fn add_rows_cause(alloc: Global, text: &mut Vec<u8>, fault: RowFault) -> Result<(), Memory>
+    ensures { OnOk result (text.new.items ≡ text.old.items ++ rows_cause fault) }
+{
+    match fault {
+        RowFault::Empty => add_word(text, "no header"),
+        RowFault::Header => add_word(text, "wrong header"),
+        RowFault::Width { at, found } => {
+            add_in_row(alloc, text, at, "")?;
+            add_number(alloc, text, found)?;
+            add_word(text, " fields")
+        }
+        RowFault::Text { at, field } => {
+            add_in_row(alloc, text, at, "field ")?;
+            add_number(alloc, text, field)?;
+            add_word(text, " is not UTF-8")
+        }
+    }
+}
+
+fn add_bill_cause(alloc: Global, text: &mut Vec<u8>, fault: BillFault) -> Result<(), Memory>
+    ensures { OnOk result (text.new.items ≡ text.old.items ++ bill_cause fault) }
+{
+    match fault {
+        BillFault::Rows(fault) => add_rows_cause(alloc, text, fault),
+        BillFault::TooManyLines => add_word(text, "more than 100000 lines"),
+        BillFault::Name { at } => add_in_row(alloc, text, at, "bad name"),
+        BillFault::Quantity { at } => add_in_row(alloc, text, at, "bad quantity"),
+        BillFault::TooManyNames { at } => add_in_row(alloc, text, at, "more than 20000 names"),
+        BillFault::Twice { at } => add_in_row(alloc, text, at, "given twice"),
+    }
+}
+
+#[tactic(auto, using(crate::proofs::Texts::appends))]
+fn add_explode_cause(
+    text: &mut Vec<u8>,
+    fault: ExplodeFault,
+    names: &Names<'_>,
+) -> Result<(), Memory>
+    requires { IsExplodeFaultNamed names.now.names.now fault }
+    ensures { OnOk result (text.new.items ≡ text.old.items ++ explode_cause names.now.names.now fault) }
+{
+    match fault {
+        ExplodeFault::Circle(n) => {
+            add_word(text, "circle through ")?;
+            add_word(text, names.name(n as usize))
+        }
+        ExplodeFault::NeedRange(n) => {
+            add_word(text, "need of ")?;
+            add_word(text, names.name(n as usize))?;
+            add_word(text, " above 100000000")
+        }
+    }
+}
+
+fn add_no_price(
+    alloc: Global,
+    text: &mut Vec<u8>,
+    part: &str,
+    from: u64,
+    supplier: &str,
+) -> Result<(), Memory>
+    ensures { OnOk result (text.new.items ≡ text.old.items ++ no_price part.now from supplier.now) }
+{
+    add_word(text, "no price of ")?;
+    add_word(text, part)?;
+    add_word(text, " from ")?;
+    add_number(alloc, text, from)?;
+    add_word(text, " at ")?;
+    add_word(text, supplier)
+}
+
+#[tactic(auto, using(crate::proofs::Texts::appends))]
+fn add_job_cause(
+    alloc: Global,
+    text: &mut Vec<u8>,
+    fault: JobFault,
+    names: &Names<'_>,
+) -> Result<(), Memory>
+    requires { IsJobFaultNamed names.now.names.now names.now.goods.now names.now.suppliers.now fault }
+    ensures { OnOk result (text.new.items ≡ text.old.items ++ job_cause names.now.names.now names.now.goods.now names.now.suppliers.now fault) }
+{
+    match fault {
+        JobFault::TooManyGoods(count) => {
+            add_number(alloc, text, count)?;
+            add_word(text, " goods, at most 1000")
+        }
+        JobFault::MissingPrice {
+            supplier,
+            from,
+            good,
+        } => {
+            let part = names.good(good as usize);
+            add_no_price(alloc, text, part, from, names.supplier(supplier as usize))
+        }
+        JobFault::ShareOrder { supplier } => {
+            add_word(text, "share of ")?;
+            add_word(text, names.supplier(supplier as usize))?;
+            add_word(text, ": low above high")
+        }
+        JobFault::WinnerOrder => add_word(text, "winners: low above high"),
+    }
+}
+
+fn fault_file(fault: &FileFault) -> &'static str
+    ensures { result.now ≡ fault_file fault.now }
+{
+    match fault {
+        FileFault::Size(file) => file_name(*file),
+        FileFault::Orders(_) => "orders",
+        FileFault::Bill(_) => "bill",
+        FileFault::Explode(_) => "bill",
+        FileFault::Job(_) => "job",
+    }
+}
+
+fn add_cause(
+    alloc: Global,
+    text: &mut Vec<u8>,
+    fault: &FileFault,
+    names: &Names<'_>,
+) -> Result<(), Memory>
+    requires { IsFaultNamed names.now.names.now names.now.goods.now names.now.suppliers.now fault.now }
+    ensures { OnOk result (text.new.items ≡ text.old.items ++ fault_cause names.now.names.now names.now.goods.now names.now.suppliers.now fault.now) }
+{
+    match fault {
+        FileFault::Size(file) => add_word(text, size_cause(*file)),
+        FileFault::Orders(fault) => add_bill_cause(alloc, text, *fault),
+        FileFault::Bill(fault) => add_bill_cause(alloc, text, *fault),
+        FileFault::Explode(fault) => add_explode_cause(text, *fault, names),
+        FileFault::Job(fault) => add_job_cause(alloc, text, *fault, names),
+    }
+}
+
+/// The text of a fault of the files: the file, and the cause. Rows are numbered from 1, which is the header.
+///
+/// `goods` has for each good of the job the number of its name in `names`, and `suppliers` the names of the suppliers, as
+/// far as they are known where the fault comes.
+#[tactic(auto, unfolding(crate::specs::FaultText::fault_text))]
+pub fn fault_text(
+    alloc: Global,
+    fault: &FileFault,
+    names: &NameList,
+    goods: &[u32],
+    suppliers: &NameList,
+) -> Result<Vec<u8>, Memory>
+    requires { IsFaultNamed names.now goods.now suppliers.now fault.now }
+    ensures { IfOk result (λ text. text.items ≡ fault_text names.now goods.now suppliers.now fault.now) }
+{
+    let named = Names {
+        names,
+        goods,
+        suppliers,
+    };
+    let mut text = Vec::new(alloc);
+    add_word(&mut text, "bad input: ")?;
+    add_word(&mut text, fault_file(fault))?;
+    add_word(&mut text, ": ")?;
+    add_cause(alloc, &mut text, fault, &named)?;
+    add_word(&mut text, "\n")?;
+    Ok(text)
+}
+
+/// The text for an input file that could not be read.
+#[tactic(auto, unfolding(crate::specs::FaultText::unread_text))]
+pub fn unread_text(alloc: Global, file: InputFile) -> Result<Vec<u8>, Memory>
+    ensures { IfOk result (λ text. text.items ≡ unread_text file) }
+{
+    let mut text = Vec::new(alloc);
+    add_word(&mut text, "cannot read ")?;
+    add_word(&mut text, file_name(file))?;
+    add_word(&mut text, "\n")?;
+    Ok(text)
+}

@@ -1,0 +1,19 @@
+use crate::file::InputFile;
+use bom_explode::ExplodeFault;
+use bom_reader::BillFault;
+use tqd_instance::JobFault;
+
+/// The first fault of the files that a command reads.
+#[derive(Clone, Copy, Debug, PartialEq, Eq)]
+pub enum FileFault {
+    /// A file has more bytes than are read: more than 16,777,216, or more than 2^62 in the tree.
+    Size(InputFile),
+    /// A fault of the orders.
+    Orders(BillFault),
+    /// A fault of the bill.
+    Bill(BillFault),
+    /// The bill has a circle, or a need that is too great.
+    Explode(ExplodeFault),
+    /// A fault of the job that the files state.
+    Job(JobFault),
+}

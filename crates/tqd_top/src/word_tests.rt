@@ -1,0 +1,140 @@
+use crate::tests::words_of;
+use crate::{Command, JobFiles, read_words};
+use std::test::Fail;
+
+// The files `o` and `f`, with a bill and terms or without.
+const fn files(bill: Option<&'static str>, terms: Option<&'static str>) -> JobFiles<'static> {
+    JobFiles {
+        orders: "o",
+        bill,
+        offers: "f",
+        terms,
+    }
+}
+
+// A `solve` of them, with the number of workers or without.
+const fn solve(
+    files: JobFiles<'static>,
+    tree: Option<&'static str>,
+    workers: Option<u64>,
+) -> Command<'static> {
+    Command::Solve {
+        files,
+        tree,
+        workers,
+    }
+}
+
+#[test]
+fn reads_words_on_jobs(rt: HostRuntime) -> Result<(), Fail> {
+    let alloc = rt.alloc();
+    let cases = [
+        ("solve o - f - -", solve(files(None, None), None, None)),
+        (
+            "solve o b f t tree",
+            solve(files(Some("b"), Some("t")), Some("tree"), None),
+        ),
+        (
+            "solve o b f - - --workers 64",
+            solve(files(Some("b"), None), None, Some(64)),
+        ),
+        (
+            "solve o - f t o --workers 007",
+            solve(files(None, Some("t")), Some("o"), Some(7)),
+        ),
+        (
+            "check o - f t tree",
+            Command::Check {
+                files: files(None, Some("t")),
+                tree: "tree",
+            },
+        ),
+    ];
+    for (line, command) in cases {
+        let words = words_of(alloc, line)?;
+        assert!(rt; read_words(&words) == Some(command), "at {line}");
+    }
+    Ok(())
+}
+
+#[test]
+fn reads_other_words(rt: HostRuntime) -> Result<(), Fail> {
+    let alloc = rt.alloc();
+    let cases = [
+        (
+            "needs o b",
+            Command::Needs {
+                orders: "o",
+                bill: Some("b"),
+            },
+        ),
+        (
+            "needs needs -",
+            Command::Needs {
+                orders: "needs",
+                bill: None,
+            },
+        ),
+        (
+            "make 0 1 064",
+            Command::Make {
+                seed: 0,
+                goods: 1,
+                suppliers: 64,
+            },
+        ),
+        (
+            "make 999999999999999999 1000 1",
+            Command::Make {
+                seed: 999_999_999_999_999_999,
+                goods: 1_000,
+                suppliers: 1,
+            },
+        ),
+    ];
+    for (line, command) in cases {
+        let words = words_of(alloc, line)?;
+        assert!(rt; read_words(&words) == Some(command), "at {line}");
+    }
+    Ok(())
+}
+
+#[test]
+fn refuses_words_of_no_form(rt: HostRuntime) -> Result<(), Fail> {
+    let alloc = rt.alloc();
+    // Two spaces have an empty word between them.
+    let lines = [
+        "",
+        "solve",
+        "solve o - f",
+        "solve o - f - - -",
+        "solve o - f - tree --workers 65",
+        "solve o - f - tree --workers 0",
+        "solve o - f - tree --workers ",
+        "solve o - f - tree --workers",
+        "solve o - f - tree --worker 2",
+        "solve o - f - tree --workers 2 -",
+        "solve - - f - -",
+        "solve o - - - -",
+        "solve o  f - -",
+        "solve o - f - ",
+        "Solve o - f - -",
+        "check o - f - -",
+        "check o - f - tree --workers 2",
+        "needs o",
+        "needs - b",
+        "needs o ",
+        "make 1 1",
+        "make 1 0 1",
+        "make 1 1001 1",
+        "make 1 1 65",
+        "make 1000000000000000000 1 1",
+        "make -1 1 1",
+    ];
+    for line in lines {
+        let words = words_of(alloc, line)?;
+        assert!(rt; read_words(&words).is_none(), "at {line}");
+    }
+    assert!(rt; read_words(&[]).is_none());
+    Ok(())
+}
