@@ -26,3 +26,4 @@ pub use fault::BillFault;
 pub use line::Line;
 pub use names::NameList;
 pub use orders::{Orders, read_orders};
+pub use reading::is_name;

@@ -32,8 +32,8 @@ pub(crate) fn read_table(
     }
 }
 
-/// Whether a text is a name.
-pub(crate) fn is_name(text: &str) -> bool
+/// Whether a text is a name: 1 to 64 bytes, none of them below 32 or 127. A rule of this program.
+pub fn is_name(text: &str) -> bool
     ensures { result ≡ is_name text.now }
 {
     let bytes = text.as_bytes();
