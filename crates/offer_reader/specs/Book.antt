@@ -2,6 +2,7 @@
 use Rattle.std.specs.Prelude.{ℕ, ◌≡◌, List, [], length, Result}
 use Rattle.std.specs.Result.{result_map_both}
 use Rattle.bom_reader.specs.Faults.{and_then}
+use Rattle.tqd_instance.specs.declared.parts.PriceRow.{PriceRow}
 use Rattle.tqd_instance.specs.PartsData.{PartsData}
 use Rattle.tqd_instance.specs.Parts.{IsWellFormed}
 use Rattle.offer_reader.specs.Offers.{Wanted, OffersData, offer_rows, checked_offers}
@@ -14,12 +15,12 @@ pub record BookData : Type 0 where
   pub suppliers : List (List ℕ)
   pub parts : PartsData
 
--- the parts of a job with these needs, suppliers and prices, and without terms
-abbrev pub parts_of : List ℕ → OffersData → PartsData
-parts_of needs offers = record {
-  suppliers = length offers.suppliers;
+-- the parts of a job with these needs, so many suppliers and these prices, and without terms
+abbrev pub parts_of : List ℕ → ℕ → List PriceRow → PartsData
+parts_of needs suppliers prices = record {
+  suppliers = suppliers;
   needs = needs;
-  prices = offers.prices;
+  prices = prices;
   stocks = [];
   totals = [];
   shares = [];
@@ -30,7 +31,7 @@ parts_of needs offers = record {
 }
 
 abbrev pub book_of : List ℕ → OffersData → BookData
-book_of needs offers = record { sellers = offers.sellers; offered = offers.offered; suppliers = offers.suppliers; parts = parts_of needs offers }
+book_of needs offers = record { sellers = offers.sellers; offered = offers.offered; suppliers = offers.suppliers; parts = parts_of needs (length offers.suppliers) offers.prices }
 
 -- no terms are in the parts yet
 pub record HasNoTerms (parts : PartsData) : Type 0 where

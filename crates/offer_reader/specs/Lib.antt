@@ -1,4 +1,5 @@
 pub mod Offers
 pub mod Book
 pub mod Reading
+pub mod Steps
 pub mod Terms

@@ -11,6 +11,7 @@
 mod book;
 mod fault;
 mod kind;
+mod offers;
 mod reading;
 mod rows;
 mod wanted;

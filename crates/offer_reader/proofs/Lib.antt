@@ -1,0 +1,5 @@
+pub mod GoodPlaces
+pub mod StepFacts
+pub mod PriceFacts
+pub mod RowFacts
+pub mod TableFacts

@@ -1,0 +1,65 @@
+ghost use Rattle.std.specs.Prelude.{◌≡◌, ◌<◌, ◌≤◌, ◌^◌, All, [], length, IfOk, OnOk};
+ghost use Rattle.tqd_base.specs.declared.limits.TheConstants.{SUPPLIERS_MAX};
+ghost use Rattle.offer_reader.specs.Book.{parts_of};
+ghost use Rattle.offer_reader.specs.Steps.{ReadsAll};
+
+use crate::fault::OfferFault;
+use crate::reading::{GoodPrices, OfferReading, OfferTexts};
+use bom_explode::Needs;
+use bom_reader::NameList;
+use csv_rows::Table;
+use std::alloc::Global;
+use tqd_base::{Memory, Stop};
+use tqd_instance::JobParts;
+
+/// Reads the rows after the header.
+fn read_rows(
+    alloc: Global,
+    table: &Table,
+    names: &NameList,
+    needs: &Needs,
+) -> Result<OfferReading, Stop<OfferFault>>
+    requires width { All (λ row. length row ≡ 4) table.now }
+    requires few { length table.now < 2 ^ 32 }
+    ensures { ReadsAll (record { names = names.now; goods = needs.now.goods }) table.now result }
+{
+    let mut reading = OfferReading::empty(alloc);
+    for row in 0..table.len() {
+        let at = row as u64 + 2;
+        let texts = OfferTexts {
+            supplier: table.field(row, 0),
+            from: table.field(row, 1),
+            part: table.field(row, 2),
+            price: table.field(row, 3),
+        };
+        match reading.read_row(alloc, names, needs, &texts, at) {
+            Ok(()) => {}
+            Err(stop) => return Err(stop),
+        }
+    }
+    Ok(reading)
+}
+
+/// The parts of a job with these prices: the needs first, and then the prices. No terms are in them.
+fn parts_with(alloc: Global, needs: &Needs, prices: &GoodPrices) -> Result<JobParts, Memory>
+    requires { length prices.now.suppliers ≤ SUPPLIERS_MAX }
+    ensures { IfOk result (λ parts. parts ≡ parts_of needs.now.units (length prices.now.suppliers) prices.now.rows) }
+{
+    let mut parts = JobParts::new(alloc, prices.suppliers.len() as u32)?;
+    add_needs(&mut parts, needs)?;
+    for row in &prices.rows {
+        parts.add_price(*row)?;
+    }
+    Ok(parts)
+}
+
+/// Adds what is needed of each good.
+fn add_needs(parts: &mut JobParts, needs: &Needs) -> Result<(), Memory>
+    requires { parts.old.needs ≡ [] }
+    ensures { OnOk result (parts.new ≡ record parts.old { needs = needs.now.units }) }
+{
+    for k in 0..needs.goods().len() {
+        parts.add_need(needs.units(k))?;
+    }
+    Ok(())
+}
