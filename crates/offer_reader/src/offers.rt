@@ -1,12 +1,15 @@
 ghost use Rattle.std.specs.Prelude.{◌≡◌, ◌<◌, ◌≤◌, ◌^◌, All, [], length, IfOk, OnOk};
 ghost use Rattle.tqd_base.specs.declared.limits.TheConstants.{SUPPLIERS_MAX};
-ghost use Rattle.offer_reader.specs.Book.{parts_of};
+ghost use Rattle.bom_reader.specs.Faults.{Answers};
+ghost use Rattle.offer_reader.specs.Book.{book_in, parts_of};
 ghost use Rattle.offer_reader.specs.Steps.{ReadsAll};
 
+use crate::book::OfferBook;
 use crate::fault::OfferFault;
 use crate::reading::{GoodPrices, OfferReading, OfferTexts};
+use crate::rows::offer_table;
 use bom_explode::Needs;
-use bom_reader::NameList;
+use bom_reader::{Bill, NameList};
 use csv_rows::Table;
 use std::alloc::Global;
 use tqd_base::{Memory, Stop};
@@ -62,4 +65,37 @@ fn add_needs(parts: &mut JobParts, needs: &Needs) -> Result<(), Memory>
         parts.add_need(needs.units(k))?;
     }
     Ok(())
+}
+
+/// Reads the file of offers, `supplier,from,part,price`. In a row the tests come in this order: the names, the total,
+/// the price, the repeat, the number of suppliers, and the number of intervals of the supplier. Suppliers are numbered
+/// from 0 by first appearance in the rows whose part is a good; rows of other parts are tested and then left out.
+/// The bill and the needs stay.
+pub fn read_offers(
+    alloc: Global,
+    bytes: &[u8],
+    bill: &Bill,
+    needs: &Needs,
+) -> Result<OfferBook, Stop<OfferFault>>
+    ensures { Answers result (book_in (record { names = bill.now.names; goods = needs.now.goods }) needs.now.units bytes.now) }
+{
+    let table = offer_table(alloc, bytes)?;
+    // A file has far fewer rows: this spares a bound on the number of a row.
+    if table.len() > u32::MAX as usize {
+        return Err(Stop::Memory);
+    }
+    let reading = read_rows(alloc, &table, bill.names(), needs)?;
+    let parts = parts_with(alloc, needs, &reading.goods)?;
+    let OfferReading {
+        sellers,
+        offered,
+        goods,
+        ..
+    } = reading;
+    Ok(OfferBook {
+        sellers,
+        offered,
+        suppliers: goods.suppliers,
+        parts,
+    })
 }
