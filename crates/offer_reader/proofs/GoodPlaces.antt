@@ -1,6 +1,6 @@
 -- The place of a good among the goods, which rise.
 use Rattle.std.proofs.Common.{ℕ, ◌≡◌, ◌≢◌, ◌+◌, ◌<◌, ◌≤◌, Bool, true, false, eqb, List, length, get_or, Option, None, Some, refl, sym, ap, ◌∙◌, ⊎_elim, arith}
-use Rattle.std.proofs.lemmas.Bool.{cases_lt, eq-eqb, eqb-true, ne_eqb, ltb-false, le-ltb}
+use Rattle.std.proofs.lemmas.Bool.{cases_lt, eq-eqb, eqb-true, ne_eqb, le-ltb}
 use Rattle.std.proofs.lemmas.List.Folds.{list_any_at, list_any_none}
 use Rattle.std.proofs.lemmas.List.Sums.{passes_at_first}
 use Rattle.std.proofs.lemmas.Grind.{get_or_default_zero}
@@ -15,9 +15,9 @@ one_place : (goods : List ℕ) → IsStrictlyIncreasing goods → (i j : ℕ) �
 one_place goods rising i j inside far same = ⊎_elim
     (λ (below : i < j). absurd (omega (arith, rising_pairs goods rising (i + 1) j (omega arith) far, rising i (omega arith), same)))
     (λ (above : j ≤ i). ⊎_elim
-      (λ (below : j < i). absurd (omega (arith, rising_pairs goods rising (j + 1) i (omega arith) inside, rising j (omega arith), same)))
-      (λ (last : i ≤ j). omega arith)
-      (cases_lt j i))
+    (λ (below : j < i). absurd (omega (arith, rising_pairs goods rising (j + 1) i (omega arith) inside, rising j (omega arith), same)))
+    (λ (last : i ≤ j). omega arith)
+    (cases_lt j i))
     (cases_lt i j)
 
 place_of_good : (goods : List ℕ) → IsStrictlyIncreasing goods → (name k : ℕ) → k < length goods → slice_index goods k ≡ name → Some k ≡ position (λ good. eqb good name) goods

@@ -3,3 +3,4 @@ pub mod StepFacts
 pub mod PriceFacts
 pub mod RowFacts
 pub mod TableFacts
+pub mod KnownNames

@@ -1,5 +1,5 @@
 -- One row more of offers.
-use Rattle.std.proofs.Common.{ℕ, zero, suc, ◌≡◌, ◌≢◌, ◌+◌, ◌<◌, ◌≤◌, Bool, true, false, cond, not, eqb, ltb, ◌&&◌, List, [], ◌∷◌, ◌++◌, length, map, get_or, Option, None, Some, refl, sym, ap, ◌∙◌, subst, append-nil, arith}
+use Rattle.std.proofs.Common.{ℕ, ◌≡◌, ◌<◌, Bool, true, false, not, ltb, ◌&&◌, List, [], ◌∷◌, ◌++◌, length, map, get_or, Option, None, Some, refl, sym, ap, ◌∙◌, arith}
 use Rattle.std.proofs.lemmas.Bool.{le-ltb, ltb-false}
 use Rattle.std.proofs.lemmas.List.{map-append}
 use Rattle.std.proofs.lemmas.List.Elements.{All-nil, All-cons, All-head, All-tail, All-append, All-weaker}
@@ -9,23 +9,23 @@ use Rattle.std.specs.List.{list_any, position_or_len}
 use Rattle.std.specs.Option.{option_or}
 use Rattle.std.specs.Str.{bytes_eq}
 use Rattle.tqd_base.specs.declared.limits.TheConstants.{SUPPLIERS_MAX, INTERVALS_MAX}
-use Rattle.bom_reader.specs.Names.{is_name, has_name, with_name}
-use Rattle.bom_reader.specs.Faults.{fault_if, first_fault}
+use Rattle.bom_reader.specs.Names.{is_name, with_name}
+use Rattle.bom_reader.specs.Faults.{fault_if}
 use Rattle.bom_reader.specs.Rows.{Row, row_number}
 use Rattle.bom_reader.proofs.NamePlaces.{has_name-added, has_name-stays, place-stays, same-places}
 use Rattle.bom_reader.proofs.FirstFault.{first_fault-append, or-none, fault_if-none}
 use Rattle.tqd_instance.specs.declared.parts.PriceRow.{PriceRow}
 use Rattle.offer_reader.proofs.PriceFacts.{froms_few, each_more, place_more, prices_more}
-use Rattle.offer_reader.specs.Offers.{Wanted, OffersData, good_of, offers_of, with_offer, with_price, no_offers, same_offer, supplier, part, from_of, from_units, amount_of, froms_of, offer_fault, offer_fault_after, intervals_at}
+use Rattle.offer_reader.specs.Offers.{Wanted, OffersData, good_of, offers_of, with_offer, with_price, no_offers, same_offer, supplier, part, from_of, amount_of, froms_of, offer_fault, offer_fault_after, intervals_at}
 use Rattle.offer_reader.specs.Reading.{PricesData, ArePrices, fields_fault, key_of, many_fault, numbers_of, priced}
-use Rattle.offer_reader.specs.Steps.{ReadingData, IsRead, HasOffers, offers_read, goods_with, good_fault, key_in, row_key, same_key, step_fault, stepped, with_names_of}
+use Rattle.offer_reader.specs.Steps.{ReadingData, IsRead, HasOffers, offers_read, goods_with, good_fault, row_key, same_key, step_fault, stepped, with_names_of}
 use Rattle.offer_reader.specs.declared.fault.OfferFault.{OfferFault}
 use Rattle.offer_reader.specs.declared.fault.OfferFault.TheVariants.{Name, From, Price, Twice, TooManySuppliers, TooManyIntervals}
 
 -- the offers with one row more are those of the reading after it
 step_by : (reading : ReadingData) (row : Row) (o : Option ℕ)
     → offers_read (record { sellers = with_name reading.sellers (supplier row); offered = with_name reading.offered (part row); goods = goods_with reading.goods row o; keys = reading.keys ++ row_key reading row ∷ [] })
-      ≡ with_price o row (record (offers_read reading) { sellers = with_name reading.sellers (supplier row); offered = with_name reading.offered (part row) })
+    ≡ with_price o row (record (offers_read reading) { sellers = with_name reading.sellers (supplier row); offered = with_name reading.offered (part row) })
 step_by reading row None = refl
 step_by reading row (Some good) = refl
 
@@ -56,8 +56,11 @@ repeats_are : (offers : OffersData) (row : Row) (rows : List Row) → IsRead off
 repeats_are offers row [] own known = refl
 repeats_are offers row (other ∷ rows) own known =
     let first = All-head (IsRead offers) other rows known in
-    rw (same-places offers.sellers (supplier row) (supplier other) own.seller first.seller, same-places offers.offered (part row) (part other) own.part first.part,
-      repeats_are offers row rows own (All-tail (IsRead offers) other rows known)) refl
+    rw (
+      same-places offers.sellers (supplier row) (supplier other) own.seller first.seller,
+      same-places offers.offered (part row) (part other) own.part first.part,
+      repeats_are offers row rows own (All-tail (IsRead offers) other rows known),
+    ) refl
 
 -- the tests of the fields come first
 first_three : (a b c : Bool) (x y z : OfferFault) (last : Option OfferFault) → fault_if a x (fault_if b y (fault_if c z last)) ≡ option_or (fault_if a x (fault_if b y (fault_if c z None))) last
@@ -77,18 +80,18 @@ none_many offers reading row at are suppliers prices =
 good_many : (prices : PricesData) (row : Row) (good at : ℕ) (offers : OffersData) → ArePrices prices
     → offers.suppliers ≡ (priced prices (supplier row) good (numbers_of row)).suppliers → offers.prices ≡ (priced prices (supplier row) good (numbers_of row)).rows
     → fault_if (ltb SUPPLIERS_MAX (length offers.suppliers)) (TooManySuppliers at) (fault_if (ltb INTERVALS_MAX (intervals_at offers row)) (TooManyIntervals at) None)
-      ≡ many_fault (priced prices (supplier row) good (numbers_of row)) (supplier row) at
+    ≡ many_fault (priced prices (supplier row) good (numbers_of row)) (supplier row) at
 good_many prices row good at offers are suppliers rows =
     let more = priced prices (supplier row) good (numbers_of row) in
     let place = position_or_len (bytes_eq (supplier row)) more.suppliers in
     let faults : List ℕ → Option OfferFault = λ list. fault_if (ltb SUPPLIERS_MAX (length more.suppliers)) (TooManySuppliers at) (fault_if (ltb INTERVALS_MAX (length list)) (TooManyIntervals at) None) in
     let by_suppliers : fault_if (ltb SUPPLIERS_MAX (length offers.suppliers)) (TooManySuppliers at) (fault_if (ltb INTERVALS_MAX (intervals_at offers row)) (TooManyIntervals at) None) ≡ faults (froms_of more.rows place)
-      = cong2 suppliers rows in
+    = cong2 suppliers rows in
     by_suppliers ∙ ap faults (sym (each_more prices (supplier row) good (numbers_of row) are place (place_more prices (supplier row) good (numbers_of row) are))) where
-  cong2 : {S T : List (List ℕ)} {p q : List PriceRow} → S ≡ T → p ≡ q
-      → fault_if (ltb SUPPLIERS_MAX (length S)) (TooManySuppliers at) (fault_if (ltb INTERVALS_MAX (length (froms_of p (position_or_len (bytes_eq (supplier row)) S)))) (TooManyIntervals at) None)
-        ≡ fault_if (ltb SUPPLIERS_MAX (length T)) (TooManySuppliers at) (fault_if (ltb INTERVALS_MAX (length (froms_of q (position_or_len (bytes_eq (supplier row)) T)))) (TooManyIntervals at) None)
-  cong2 e f = λ i. fault_if (ltb SUPPLIERS_MAX (length (e i))) (TooManySuppliers at) (fault_if (ltb INTERVALS_MAX (length (froms_of (f i) (position_or_len (bytes_eq (supplier row)) (e i))))) (TooManyIntervals at) None)
+      cong2 : {S T : List (List ℕ)} {p q : List PriceRow} → S ≡ T → p ≡ q
+          → fault_if (ltb SUPPLIERS_MAX (length S)) (TooManySuppliers at) (fault_if (ltb INTERVALS_MAX (length (froms_of p (position_or_len (bytes_eq (supplier row)) S)))) (TooManyIntervals at) None)
+          ≡ fault_if (ltb SUPPLIERS_MAX (length T)) (TooManySuppliers at) (fault_if (ltb INTERVALS_MAX (length (froms_of q (position_or_len (bytes_eq (supplier row)) T)))) (TooManyIntervals at) None)
+      cong2 e f = λ i. fault_if (ltb SUPPLIERS_MAX (length (e i))) (TooManySuppliers at) (fault_if (ltb INTERVALS_MAX (length (froms_of (f i) (position_or_len (bytes_eq (supplier row)) (e i))))) (TooManyIntervals at) None)
 
 -- the key of a row repeats one exactly where the offer does
 row_repeats_are : (wanted : Wanted) (rows : List Row) (row : Row) (reading : ReadingData) → HasOffers wanted rows reading
@@ -104,7 +107,7 @@ reading_with reading row o = record { sellers = with_name reading.sellers (suppl
 
 tail_same : (reading : ReadingData) (row : Row) (at : ℕ) (o : Option ℕ) → ArePrices reading.goods
     → fault_if (ltb SUPPLIERS_MAX (length (offers_read (reading_with reading row o)).suppliers)) (TooManySuppliers at) (fault_if (ltb INTERVALS_MAX (intervals_at (offers_read (reading_with reading row o)) row)) (TooManyIntervals at) None)
-      ≡ good_fault reading.goods row o at
+    ≡ good_fault reading.goods row o at
 unfolding reading_with
 tail_same reading row at None are = none_many (offers_read (reading_with reading row None)) reading row at are refl refl
 tail_same reading row at (Some good) are = good_many reading.goods row good at (offers_read (reading_with reading row (Some good))) are refl refl
@@ -160,4 +163,3 @@ no_rows wanted = record {
   goods = record { as_many = refl; each = λ i inside. absurd (omega arith); few = λ i inside. absurd (omega arith); few_suppliers = omega arith; of_suppliers = All-nil (λ (r : PriceRow). r.supplier < 0) };
   sound = refl;
 }
-

@@ -1,5 +1,5 @@
 -- What a row with its numbers, its key and its good makes of a reading.
-use Rattle.std.proofs.Common.{ℕ, ◌≡◌, Bool, true, false, List, [], Option, None, Some, Result, Ok, Err, refl, sym, ap, ◌∙◌, subst}
+use Rattle.std.proofs.Common.{ℕ, ◌≡◌, Bool, true, false, None, Some, Result, Ok, Err, refl, sym, ap, ◌∙◌, subst}
 use Rattle.std.specs.List.{list_any}
 use Rattle.tqd_base.specs.declared.memory.Stop.{Stop}
 use Rattle.tqd_base.specs.declared.memory.Stop.TheVariants.{Refused, Memory}

@@ -1,10 +1,10 @@
 -- What was read of offers and terms.
-use Rattle.std.specs.Prelude.{ℕ, ◌≡◌, List, [], length, Result}
+use Rattle.std.specs.Prelude.{ℕ, ◌≡◌, ◌≤◌, List, [], length, Result}
 use Rattle.std.specs.Result.{result_map_both}
 use Rattle.bom_reader.specs.Faults.{and_then}
 use Rattle.tqd_instance.specs.declared.parts.PriceRow.{PriceRow}
 use Rattle.tqd_instance.specs.PartsData.{PartsData}
-use Rattle.tqd_instance.specs.Parts.{IsWellFormed}
+use Rattle.tqd_base.specs.declared.limits.TheConstants.{SUPPLIERS_MAX}
 use Rattle.offer_reader.specs.Offers.{Wanted, OffersData, offer_rows, checked_offers}
 use Rattle.offer_reader.specs.declared.fault.OfferFault.{OfferFault}
 
@@ -33,20 +33,10 @@ parts_of needs suppliers prices = record {
 abbrev pub book_of : List ℕ → OffersData → BookData
 book_of needs offers = record { sellers = offers.sellers; offered = offers.offered; suppliers = offers.suppliers; parts = parts_of needs (length offers.suppliers) offers.prices }
 
--- no terms are in the parts yet
-pub record HasNoTerms (parts : PartsData) : Type 0 where
-  pub stocks : parts.stocks ≡ []
-  pub totals : parts.totals ≡ []
-  pub shares : parts.shares ≡ []
-  pub fees : parts.fees ≡ []
-  pub overs : parts.overs ≡ []
-  pub least_winners : parts.least_winners ≡ 0
-  pub most_winners : parts.most_winners ≡ 64
-
 -- what every book keeps
 pub record IsBook (book : BookData) : Type 0 where
   pub suppliers : book.parts.suppliers ≡ length book.suppliers
-  pub formed : IsWellFormed book.parts
+  pub few : length book.suppliers ≤ SUPPLIERS_MAX
 
 -- the book that a file of offers gives, where the goods need these units; or the fault
 abbrev pub book_in : Wanted → List ℕ → List ℕ → Result BookData OfferFault

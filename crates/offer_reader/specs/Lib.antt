@@ -2,4 +2,3 @@ pub mod Offers
 pub mod Book
 pub mod Reading
 pub mod Steps
-pub mod Terms

@@ -9,7 +9,7 @@ use Rattle.money.specs.Price.{price_of}
 use Rattle.csv_rows.specs.Rows.{records_of, table_of}
 use Rattle.tqd_instance.specs.declared.parts.PriceRow.{PriceRow}
 use Rattle.bom_reader.specs.Names.{is_name, number_of, with_name}
-use Rattle.bom_reader.specs.Faults.{fault_if, first_fault, unless, and_then}
+use Rattle.bom_reader.specs.Faults.{fault_if, first_fault, unless}
 use Rattle.bom_reader.specs.Rows.{Row, field, row_number}
 use Rattle.offer_reader.specs.declared.fault.OfferFault.{OfferFault}
 use Rattle.offer_reader.specs.declared.fault.OfferFault.TheVariants.{Rows, Name, From, Price, Twice, TooManySuppliers, TooManyIntervals}

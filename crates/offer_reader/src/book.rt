@@ -2,8 +2,8 @@ use bom_reader::NameList;
 use std::marker::Model;
 use tqd_instance::JobParts;
 
-/// What was read of offers and terms: the suppliers that offer a good, numbered by first appearance, and the parts of
-/// the job, which are well formed.
+/// What was read of offers: everyone who sells, every part that is offered, the suppliers that offer a good, numbered by
+/// first appearance, and the parts of the job.
 ///
 /// Contracts see it as `BookData` of `specs/`. Every book keeps what `IsBook` there says.
 #[derive(Drop)]
@@ -26,6 +26,7 @@ impl Model for OfferBook {
 
 impl OfferBook {
     ghost use Rattle.std.specs.Prelude.{◌≡◌};
+    ghost use Rattle.bom_reader.specs.Names.{has_name};
     ghost use Rattle.offer_reader.specs.Book.{IsBook};
 
     /// The suppliers that offer a good, at most 64.
@@ -34,6 +35,20 @@ impl OfferBook {
         ensures kept { IsBook self.now }
     {
         &self.suppliers
+    }
+
+    /// Whether a name stands as a supplier in a row of the offers.
+    pub fn sells(&self, name: &str) -> bool
+        ensures { result ≡ has_name self.now.sellers name.now }
+    {
+        self.sellers.number(name).is_some()
+    }
+
+    /// Whether a name stands as a part in a row of the offers.
+    pub fn is_offered(&self, name: &str) -> bool
+        ensures { result ≡ has_name self.now.offered name.now }
+    {
+        self.offered.number(name).is_some()
     }
 
     /// The parts of the job.

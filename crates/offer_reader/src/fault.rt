@@ -18,22 +18,3 @@ pub enum OfferFault {
     /// The row brings the 17th total from which a price of a good holds at its supplier.
     TooManyIntervals { at: u64 },
 }
-
-/// The first fault of a file of terms. Rows are numbered from 1, which is the header, and fields from 1.
-#[derive(Clone, Copy, Debug, PartialEq, Eq)]
-pub enum TermFault {
-    /// The file is not rows of texts under the header: the first fault of its form.
-    Rows(RowFault),
-    /// There is no such kind of term.
-    UnknownKind { at: u64 },
-    /// The kind is `multiple`: order multiples are not supported.
-    OrderMultiple { at: u64 },
-    /// The first field that is not of the form that the kind of term asks.
-    Field { at: u64, field: u64 },
-    /// The supplier stands in no row of the offers.
-    UnknownSupplier { at: u64 },
-    /// The part is no name of orders or bill, and stands in no row of the offers.
-    UnknownPart { at: u64 },
-    /// The kind, the supplier and the part stood in an earlier row.
-    Twice { at: u64 },
-}

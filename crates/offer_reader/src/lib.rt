@@ -1,20 +1,22 @@
-//! Offers and terms, read from comma-separated files into the parts of a job.
+//! Offers, read from a comma-separated file into the parts of a job.
 //!
-//! [`read_offers`] and [`read_terms`] answer exactly what `book_in` and `terms_in` of `specs/` say of the bytes: the
-//! data, or the first fault. All rows are tested for their form first, and then the first row with a fault decides.
-//! Only the want of memory is left open.
+//! [`read_offers`] answers exactly what `book_in` of `specs/` says of the bytes: who sells, what is offered, and the parts
+//! of a job without terms; or the first fault. All rows are tested for their form first, and then the first row with a
+//! fault decides. Only the want of memory is left open.
 //!
 //! Offers of parts that are no goods are tested and then left out. Suppliers are numbered from 0 by first appearance in
-//! the rows whose part is a good. Terms on suppliers and parts that take no part in the job change nothing.
+//! the rows whose part is a good.
 #![tactic(auto)]
 
 mod book;
 mod fault;
-mod kind;
 mod offers;
 mod reading;
 mod rows;
+#[cfg(test)]
+mod tests;
 mod wanted;
 
 pub use book::OfferBook;
-pub use fault::{OfferFault, TermFault};
+pub use fault::OfferFault;
+pub use offers::read_offers;

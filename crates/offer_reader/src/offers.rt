@@ -85,7 +85,9 @@ pub fn read_offers(
         return Err(Stop::Memory);
     }
     let reading = read_rows(alloc, &table, bill.names(), needs)?;
-    let parts = parts_with(alloc, needs, &reading.goods)?;
+    let Ok(parts) = parts_with(alloc, needs, &reading.goods) else {
+        return Err(Stop::Memory);
+    };
     let OfferReading {
         sellers,
         offered,

@@ -211,7 +211,8 @@ impl OfferReading {
     fn note_names(&mut self, row: &OfferTexts<'_>, from: u64) -> Result<bool, Memory>
         ensures fresh { IfOk result (λ fresh. fresh ≡ not (list_any (same_key (key_in (with_names_of self.old (row_of row.now)) (row_of row.now) from)) self.old.keys)) }
         ensures noted { OnOk result (self.new ≡ record (with_names_of self.old (row_of row.now)) {
-            keys = with_key self.old.keys (key_in (with_names_of self.old (row_of row.now)) (row_of row.now) from) }) }
+          keys = with_key self.old.keys (key_in (with_names_of self.old (row_of row.now)) (row_of row.now) from);
+        }) }
     {
         let seller = self.sellers.add(row.supplier)?;
         let part = self.offered.add(row.part)?;

@@ -1,10 +1,9 @@
-//! The rows of files of offers and of terms.
+//! The rows of a file of offers.
 ghost use Rattle.std.specs.Prelude.{◌≡◌, All, length, IfOk};
 ghost use Rattle.bom_reader.specs.Faults.{Answers};
 ghost use Rattle.offer_reader.specs.Offers.{offer_rows};
-ghost use Rattle.offer_reader.specs.Terms.{term_rows};
 
-use crate::fault::{OfferFault, TermFault};
+use crate::fault::OfferFault;
 use csv_rows::{Table, rows};
 use std::alloc::Global;
 use tqd_base::Stop;
@@ -16,17 +15,6 @@ pub(crate) fn offer_table(alloc: Global, bytes: &[u8]) -> Result<Table, Stop<Off
     match rows(alloc, bytes, "supplier,from,part,price") {
         Ok(table) => Ok(table),
         Err(Stop::Refused(fault)) => Err(Stop::Refused(OfferFault::Rows(fault))),
-        Err(Stop::Memory) => Err(Stop::Memory),
-    }
-}
-
-pub(crate) fn term_table(alloc: Global, bytes: &[u8]) -> Result<Table, Stop<TermFault>>
-    ensures answer { Answers result (term_rows bytes.now) }
-    ensures width { IfOk result (λ table. All (λ row. length row ≡ 5) table) }
-{
-    match rows(alloc, bytes, "kind,supplier,part,low,high") {
-        Ok(table) => Ok(table),
-        Err(Stop::Refused(fault)) => Err(Stop::Refused(TermFault::Rows(fault))),
         Err(Stop::Memory) => Err(Stop::Memory),
     }
 }

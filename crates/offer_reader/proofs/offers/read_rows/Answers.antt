@@ -1,4 +1,4 @@
-use Rattle.std.proofs.Common.{◌≡◌, ◌∷◌, [], ◌+◌, refl, arith, slice_index_or}
+use Rattle.std.proofs.Common.{◌∷◌, [], refl, arith}
 use Rattle.offer_reader.proofs.TableFacts.{AreTexts, row_read, row_stops}
 use Rattle.offer_reader.proofs.offers.read_rows.Goals as goal
 

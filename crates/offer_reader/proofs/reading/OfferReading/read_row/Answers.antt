@@ -1,4 +1,4 @@
-use Rattle.std.proofs.Common.{◌≡◌, true, false, refl, sym, ap, subst, ◌∙◌}
+use Rattle.std.proofs.Common.{◌≡◌, true, false, sym, ap, subst, ◌∙◌}
 use Rattle.std.proofs.lemmas.Bool.{not-false, not-true}
 use Rattle.std.proofs.lemmas.Result.{err_from_is_err_and}
 use Rattle.bom_reader.specs.Faults.{Answers, unless}
@@ -24,4 +24,4 @@ returns-in-Some-clause-answer c =
     good_answers (record { names = c.args.names.now; goods = c.args.needs.now.goods }) c.args.self.now c.args.at (row_of c.args.row.now) c.in_ok-numbers.numbers c.in-Some.good c.add.result
     (has_numbers c.args.at (row_of c.args.row.now) c.in_ok-numbers.numbers c.in_ok-numbers.ensures) fresh (sym c.in-Some.ensures)
     (subst (λ (goods : PricesData). Answers c.add.result (unless (many_fault (priced goods c.args.row.now.supplier.now c.in-Some.good c.in_ok-numbers.numbers) c.args.row.now.supplier.now c.args.at) tt))
-      (ap (λ (r : ReadingData). r.goods) (c.self.view_is ∙ c.in_ok-note_names.ensures.noted)) c.add.ensures.answer)
+    (ap (λ (r : ReadingData). r.goods) (c.self.view_is ∙ c.in_ok-note_names.ensures.noted)) c.add.ensures.answer)
