@@ -9,3 +9,4 @@ pub mod Duality
 pub mod Soundness
 pub mod OneList
 pub mod HalfParts
+pub mod ValidTrees

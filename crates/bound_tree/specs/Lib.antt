@@ -4,3 +4,4 @@ pub mod Value
 pub mod Asked
 pub mod Narrowed
 pub mod Kills
+pub mod BoxTree

@@ -11,6 +11,7 @@ ghost use Rattle.bound_tree.specs.declared.leaf.Leaf.{Leaf};
 ghost use Rattle.bound_tree.specs.Prices.{Prices, Fits, row_of, AreFitting};
 ghost use Rattle.bound_tree.specs.Value.{value, free_value};
 ghost use Rattle.bound_tree.specs.Kills.{Kills, Shows};
+ghost use Rattle.bound_tree.specs.BoxTree.{BoxTree, IsValid, ShowsAll};
 ghost use Rattle.bound_tree.specs.Narrowed.{AreParts};
 
 /// Prices in one list are a row that fits a box exactly where there are as many as the box calls for, and all in range.
@@ -40,4 +41,11 @@ pub fn no_purchase_has_a_free_value_above_zero()
 pub fn killing_leaves_are_sound()
     ensures { (job : Job) (area : IntervalBox) (best : Option ℕ) (leaf : Leaf)
         → Kills job area best leaf → Shows job area best leaf }
+{}
+
+/// A tree that is valid for a box of a job against the cost of a purchase shows that no feasible purchase in the box costs
+/// less, and one that is valid against none shows that no purchase in it is feasible.
+pub fn valid_trees_are_sound()
+    ensures { (job : Job) (area : IntervalBox) (best : Option ℕ) (tree : BoxTree)
+        → IsBoxOf job area → IsValid job best area tree → ShowsAll job area best }
 {}

@@ -7,7 +7,7 @@
 //! `Row::value` and `Row::value_free`, and `value_in` and `value_free_in` for prices in a slice, compute these words in
 //! one pass over the prices of the job, and `Leaf::kills` decides by them; none of these takes memory. `Row::narrowed`
 //! keeps a row's prices for a part of its box. `laws` promises that no feasible purchase in a box costs less than the
-//! value of a row, over all matrices of whole numbers, and what follows of leaves.
+//! value of a row, over all matrices of whole numbers, and what follows of leaves and of trees of boxes.
 #![tactic(auto)]
 
 mod kills;
