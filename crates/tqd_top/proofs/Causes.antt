@@ -12,7 +12,7 @@ use Rattle.plan_report.specs.declared.fault.FileFault.{FileFault}
 use Rattle.tqd_top.specs.Listing.{IsUnreadBill, at_orders, at_bill}
 use Rattle.tqd_top.specs.Words.{Asked, FilesNamed, IsNoForm, IsSolve, IsNeeds, ToSolve, ToNeed, two_files}
 use Rattle.tqd_top.specs.Plain.{Order, Offers, plain_order, plain_offers}
-use Rattle.tqd_top.specs.Answers.{StatesOrder, StatesOffers, StatesNoOrder, StatesNoOffers, IsFound, IsReadFault, IsNeedsFound, IsNotBuilt, IsCutOff, HasCause, FailsOnlyInputs, IsJobGiven, IsFaultless, IsAnswerToJob, IsAnswerToNeeds}
+use Rattle.tqd_top.specs.Answers.{StatesOrder, StatesOffers, StatesNoOrder, StatesNoOffers, IsFound, IsReadFault, IsNeedsFound, IsNotBuilt, IsCutOff, HasCause, FailsOnlyInputs, IsJobGiven, IsFaultless, IsAnswerToJob, IsAnswerToNeeds, IsAnswerToNoForm}
 use Rattle.tqd_top.specs.Reads.{ReadsAs, FailsAt}
 use Rattle.tqd_top.specs.Runs.{FindsQuietly, PrintGives, Grows}
 
@@ -257,3 +257,33 @@ answers_needs a old new words o b NotBuilt n f c = needs_not_unbuilt a old.world
 answers_needs a old new words o b (ReadFault file) n f c = f.reading (rose_fault a old new words file c.text c.found)
 answers_needs a old new words o b (WriteFault Out) n f c = f.printing c.0
 answers_needs a old new words o b (WriteFault Tree) n f c = c
+
+-- words of no form have no other answer
+not_unbuilt_form : (a : Bool) (w : World) (words : List Name) → IsNoForm words → IsNotBuilt a w words → ⊥
+not_unbuilt_form a w words none (inl other) = some_none_asked (sym other.words_are ∙ none)
+not_unbuilt_form a w words none (inr (inl order)) = solve_is_form words order.orders_name order.offers_name order.is_solve none
+not_unbuilt_form a w words none (inr (inr offers)) = solve_is_form words offers.orders_name offers.offers_name offers.is_solve none
+
+solve_fault_form : (a : Bool) (old new : State) (words : List Name) (file : InputFile) (text : Bytes) → IsNoForm words → IsReadFault a old new words file text → ⊥
+solve_fault_form a old new words Orders text none f = solve_is_form words f.0.orders_name f.0.offers_name f.0.is_solve none
+solve_fault_form a old new words OffersFile text none f = solve_is_form words f.0.orders_name f.0.offers_name f.0.is_solve none
+solve_fault_form a old new words Bill text none f = f
+solve_fault_form a old new words Terms text none f = f
+solve_fault_form a old new words TreeFile text none f = f
+
+fault_form : (a : Bool) (old new : State) (words : List Name) (file : InputFile) (text : Bytes) → IsNoForm words
+    → IsReadFault a old new words file text ⊎ IsNeedsFound a old new words (ReadFault file) text → ⊥
+fault_form a old new words file text none (inl f) = solve_fault_form a old new words file text none f
+fault_form a old new words file text none (inr f) = needs_is_form words f.orders_name f.bill_name f.is_needs none
+
+pub answers_no_form : (a : Bool) (old new : State) (words : List Name) (answer : Answer) → IsNoForm words → HasCause a old new words answer → IsAnswerToNoForm answer
+answers_no_form a old new words (Solved plan amount) none c = solve_is_form words c.found.orders_name c.found.offers_name c.found.is_solve none
+answers_no_form a old new words Infeasible none c = solve_is_form words c.found.orders_name c.found.offers_name c.found.is_solve none
+answers_no_form a old new words Listed none c = needs_is_form words c.found.orders_name c.found.bill_name c.found.is_needs none
+answers_no_form a old new words Words none c = tt
+answers_no_form a old new words (BadInput fault) none c = needs_is_form words c.found.orders_name c.found.bill_name c.found.is_needs none
+answers_no_form a old new words NotBuilt none c = not_unbuilt_form a old.world words none c.found.0
+answers_no_form a old new words (ReadFault file) none c = fault_form a old new words file c.text none c.found
+answers_no_form a old new words (WriteFault Out) none c = tt
+answers_no_form a old new words (WriteFault Tree) none c = c
+answers_no_form a old new words Memory none c = tt

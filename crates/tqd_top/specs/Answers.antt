@@ -201,6 +201,19 @@ IsAnswerToNeeds (ReadFault file) = ⊥
 IsAnswerToNeeds (WriteFault target) = ⊥
 IsAnswerToNeeds Memory = Unit {0}
 
+-- an answer to words of no form
+abbrev pub IsAnswerToNoForm : Answer → Type 0
+IsAnswerToNoForm (Solved plan amount) = ⊥
+IsAnswerToNoForm Infeasible = ⊥
+IsAnswerToNoForm Listed = ⊥
+IsAnswerToNoForm Words = Unit {0}
+IsAnswerToNoForm (BadInput fault) = ⊥
+IsAnswerToNoForm NotBuilt = ⊥
+IsAnswerToNoForm (ReadFault file) = ⊥
+IsAnswerToNoForm (WriteFault Out) = Unit {0}
+IsAnswerToNoForm (WriteFault Tree) = ⊥
+IsAnswerToNoForm Memory = Unit {0}
+
 -- the words name two plain files that state a job
 pub record IsJobGiven (absent_is_empty : Bool) (w : World) (words : List Name) : Type 0 where
   pub told : IsSome w.files

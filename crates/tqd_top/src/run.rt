@@ -1,7 +1,7 @@
 ghost use Rattle.std.specs.Prelude.{◌≡◌, Option, List, IfOk, map, string_bytes};
 ghost use Rattle.tqd_base.specs.World.{Name, NeverFall};
-ghost use Rattle.tqd_top.specs.Words.{IsNeeds};
-ghost use Rattle.tqd_top.specs.Answers.{IsFound, HasCause, FailsOnlyInputs, IsJobGiven, IsFaultless, IsAnswerToJob, IsAnswerToNeeds, status_of};
+ghost use Rattle.tqd_top.specs.Words.{IsNeeds, IsNoForm};
+ghost use Rattle.tqd_top.specs.Answers.{IsFound, HasCause, FailsOnlyInputs, IsJobGiven, IsFaultless, IsAnswerToJob, IsAnswerToNeeds, IsAnswerToNoForm, status_of};
 ghost use Rattle.tqd_top.specs.Runs.{FindsQuietly, PrintGives};
 
 use crate::answer::{Answer, Ended, Found, Target};
@@ -76,6 +76,9 @@ pub fn run_plain<D: Desk>(alloc: Global, words: &[String], desk: &mut D) -> Ende
     // Plain files without a fault bring an answer to the job, or the want of memory.
     ensures complete { IsJobGiven D.absent_is_empty (D.state desk.old).world (map string_bytes words.now)
         → IsFaultless (D.state desk.old) (D.state desk.new) → IsAnswerToJob result.answer }
+
+    // Words of no form bring Words, or the fault or the want of memory that comes before its text is printed.
+    ensures no_form { IsNoForm (map string_bytes words.now) → IsAnswerToNoForm result.answer }
 
     // Without a fault `needs` lists the needs, or says what is wrong with the files, or wants memory.
     ensures needs_complete { (orders : Name) (bill : Option Name) → IsNeeds (map string_bytes words.now) orders bill

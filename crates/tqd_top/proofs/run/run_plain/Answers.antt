@@ -1,7 +1,7 @@
 -- The answer that was found is printed, or memory was wanting.
 use Rattle.std.proofs.Common.{inl}
 use Rattle.tqd_top.proofs.FoundLemmas.{falls_never}
-use Rattle.tqd_top.proofs.Causes.{cause_of, inputs_of, answers_job, answers_needs}
+use Rattle.tqd_top.proofs.Causes.{cause_of, inputs_of, answers_job, answers_needs, answers_no_form}
 use Rattle.tqd_top.proofs.run.run_plain.Goals as goal
 use Rattle.tqd_top.proofs.run.run_plain.Goals.{in-Ok, in-Err}
 
@@ -32,3 +32,6 @@ returns-clause-complete g c = λ given faultless. answers_job g.D.Desk.absent_is
 
 pub returns-clause-needs_complete : goal.returns-clause-needs_complete
 returns-clause-needs_complete g c = λ orders bill needs faultless. answers_needs g.D.Desk.absent_is_empty _ _ _ orders bill _ needs faultless (returns-clause-cause g c)
+
+pub returns-clause-no_form : goal.returns-clause-no_form
+returns-clause-no_form g c = λ none. answers_no_form g.D.Desk.absent_is_empty _ _ _ _ none (returns-clause-cause g c)
