@@ -8,7 +8,7 @@ use Rattle.bom_explode.specs.Structure.{Structure, IsStructure}
 use Rattle.bom_explode.specs.Ways.{along}
 use Rattle.bom_explode.specs.Below.{HasNoCircle}
 use Rattle.bom_explode.specs.Chains.{AreChains}
-use Rattle.bom_explode.specs.Sum.{sum_to}
+use Rattle.tqd_base.specs.Sum.{sum_to}
 use Rattle.bom_explode.specs.Needs.{share, demand}
 use Rattle.bom_explode.specs.Order.{IsOrder}
 use Rattle.bom_explode.specs.Solution.{need_of, AreCapped, IsTotal}

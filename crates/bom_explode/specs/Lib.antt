@@ -2,7 +2,6 @@ pub mod Structure
 pub mod Ways
 pub mod Below
 pub mod Chains
-pub mod Sum
 pub mod Needs
 pub mod Search
 pub mod Order

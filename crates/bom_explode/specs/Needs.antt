@@ -3,7 +3,7 @@ use Rattle.std.specs.Prelude.{ℕ, ◌≡◌, ◌≢◌, ◌+◌, ◌*◌, ◌<�
 use Rattle.std.specs.List.Sorted.{IsStrictlyIncreasing}
 use Rattle.tqd_base.specs.declared.limits.TheConstants.{QTY_MAX, NAMES_MAX}
 use Rattle.bom_explode.specs.Structure.{Structure}
-use Rattle.bom_explode.specs.Sum.{sum_to}
+use Rattle.tqd_base.specs.Sum.{sum_to}
 
 -- what line l asks of name n, where each name needs what `need` says
 abbrev pub share : Structure → (ℕ → ℕ) → ℕ → ℕ → ℕ

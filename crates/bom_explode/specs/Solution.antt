@@ -3,7 +3,7 @@ use Rattle.std.specs.Prelude.{ℕ, zero, suc, ◌≡◌, ◌+◌, ◌<◌, min, 
 use Rattle.bom_explode.specs.declared.amounts.TheConstants.{TOO_MANY}
 use Rattle.bom_explode.specs.Structure.{Structure}
 use Rattle.bom_explode.specs.Needs.{share, demand}
-use Rattle.bom_explode.specs.Sum.{sum_to}
+use Rattle.tqd_base.specs.Sum.{sum_to}
 
 -- the needs as far as chains of fewer than k lines bring them
 abbrev pub needs_within : Structure → ℕ → ℕ → ℕ

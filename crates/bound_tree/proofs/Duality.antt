@@ -9,7 +9,7 @@ use Rattle.std.proofs.lemmas.Nat.{mul-le}
 use Rattle.std.proofs.Math.Nat.{mul-add}
 use borrow.Author.Differences.{up, down}
 use Rattle.tqd_instance.specs.declared.job.Job.{Job}
-use Rattle.tqd_instance.specs.Sum.{sum_to}
+use Rattle.tqd_base.specs.Sum.{sum_to}
 use Rattle.tqd_instance.specs.Job.{goods, suppliers, need, most, low, high, pick}
 use Rattle.tqd_instance.specs.Purchase.{Purchase, total, bought}
 use Rattle.tqd_instance.specs.Feasible.{Feasible}

@@ -7,7 +7,8 @@ use Rattle.tqd_instance.specs.declared.job.Job.{Job}
 use Rattle.tqd_instance.specs.Job.{suppliers}
 use Rattle.interval_box.specs.declared.boxes.IntervalBox.{IntervalBox}
 use Rattle.interval_box.specs.Ranges.{low_of, high_of, Admits, IsBoxOf}
-use Rattle.bound_tree.specs.Sums.{signed_sum_to, least_from}
+use Rattle.tqd_base.specs.Sum.{signed_sum_to}
+use Rattle.bound_tree.specs.LeastFrom.{least_from}
 use Rattle.bound_tree.specs.Prices.{Prices, segment_price, IsPrice, Fits}
 use Rattle.bound_tree.specs.Value.{Charges, charges_of, no_charges, segment_value, supplier_value, goods_value, value_by}
 use Rattle.bound_tree.specs.Narrowed.{IsPartAt, IsPartOf, IsNarrowed, AreNarrowedPlaces}

@@ -6,7 +6,8 @@ use Rattle.tqd_instance.specs.declared.job.Job.{Job}
 use Rattle.tqd_instance.specs.Job.{goods, low, high}
 use Rattle.interval_box.specs.declared.boxes.IntervalBox.{IntervalBox}
 use Rattle.interval_box.specs.Ranges.{low_of, high_of}
-use Rattle.bound_tree.specs.Sums.{signed_sum_to, least_from}
+use Rattle.tqd_base.specs.Sum.{signed_sum_to}
+use Rattle.bound_tree.specs.LeastFrom.{least_from}
 use Rattle.bound_tree.specs.Prices.{first_of, price_at}
 use Rattle.bound_tree.specs.Value.{Charges, cap, least_times, least_gain, segment_value, supplier_value}
 use Rattle.bound_tree.proofs.SignedSums.{least_from-more}

@@ -3,16 +3,14 @@ use Rattle.std.proofs.Common.{ℕ, suc, zero, ◌≡◌, ◌+◌, ◌<◌, ◌�
 use Rattle.std.specs.Int.{int_min}
 use Rattle.std.proofs.lemmas.Bool.{cases_lt}
 use Rattle.std.proofs.lemmas.Int.{ints, clamps}
-use Rattle.tqd_instance.specs.Sum.{sum_to}
 use Rattle.tqd_instance.proofs.SumLemmas.{sum_to-zero, sum_to-suc}
-use Rattle.bound_tree.specs.Sums.{signed_sum_to, least_from}
+use Rattle.tqd_base.specs.Sum.{sum_to, signed_sum_to}
+use Rattle.bound_tree.specs.LeastFrom.{least_from}
 
 pub signed_sum_to-zero : (f : ℕ → ℤ) → signed_sum_to 0 f ≡ pos 0
-unfolding signed_sum_to
 signed_sum_to-zero f = refl
 
 pub signed_sum_to-suc : (n : ℕ) (f : ℕ → ℤ) → signed_sum_to (suc n) f ≡ signed_sum_to n f +ℤ f n
-unfolding signed_sum_to
 signed_sum_to-suc n f = refl
 
 pub signed_sum_to-more : (n : ℕ) (f : ℕ → ℤ) → signed_sum_to (n + 1) f ≡ signed_sum_to n f +ℤ f n

@@ -1,4 +1,4 @@
-pub mod Sums
+pub mod LeastFrom
 pub mod Prices
 pub mod Value
 pub mod Asked

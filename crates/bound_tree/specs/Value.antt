@@ -5,7 +5,8 @@ use Rattle.tqd_instance.specs.declared.job.Job.{Job}
 use Rattle.tqd_instance.specs.Job.{goods, suppliers, need, most, stock, low, high, price, fee}
 use Rattle.interval_box.specs.declared.boxes.IntervalBox.{IntervalBox}
 use Rattle.interval_box.specs.Ranges.{low_of, high_of}
-use Rattle.bound_tree.specs.Sums.{signed_sum_to, least_from}
+use Rattle.tqd_base.specs.Sum.{signed_sum_to}
+use Rattle.bound_tree.specs.LeastFrom.{least_from}
 use Rattle.bound_tree.specs.Prices.{Prices, price_at, segment_price}
 
 -- what is asked for a unit of good k at supplier i in segment j, and once where anything is bought from i

@@ -4,7 +4,7 @@ ghost use Rattle.std.specs.Int.{int_min};
 ghost use Rattle.tqd_base.specs.declared.limits.TheConstants.{PRICE_MAX, QTY_MAX, SUPPLIERS_MAX};
 ghost use Rattle.tqd_instance.specs.Job.{goods, suppliers, segments};
 ghost use Rattle.interval_box.specs.Ranges.{IsBoxOf, IsRangeOf};
-ghost use Rattle.bound_tree.specs.Sums.{signed_sum_to};
+ghost use Rattle.tqd_base.specs.Sum.{signed_sum_to};
 ghost use Rattle.bound_tree.specs.Prices.{first_of, count_of, price_at, segment_price, IsPrice, Fits, row_of};
 ghost use Rattle.bound_tree.specs.Value.{
   cap,

@@ -1,7 +1,7 @@
 -- When no purchase in a box can meet the winner limits.
 use Rattle.std.specs.Prelude.{ℕ, ◌<◌, ◌==◌, ◌⊎◌, if◌then◌else◌}
 use Rattle.tqd_instance.specs.declared.job.Job.{Job}
-use Rattle.tqd_instance.specs.Sum.{sum_to}
+use Rattle.tqd_base.specs.Sum.{sum_to}
 use Rattle.tqd_instance.specs.Job.{suppliers, least_winners, most_winners}
 use Rattle.interval_box.specs.declared.boxes.IntervalBox.{IntervalBox}
 use Rattle.interval_box.specs.Ranges.{low_of, high_of}

@@ -3,7 +3,7 @@ use Rattle.std.proofs.lemmas.Bool.{cases_lt}
 use Rattle.std.proofs.lemmas.Int.{ints}
 use lib.IntN.{negsuc, neg_ℤ, pos-*ℤ-pos, negsuc-*ℤ-pos, zero-*ℤ}
 use borrow.Author.Differences.{up, down}
-use Rattle.mcf_lower.specs.Sums.{sum_to}
+use Rattle.tqd_base.specs.Sum.{sum_to}
 use Rattle.mcf_lower.specs.Net.{Network, IsNetwork, arc_of}
 use Rattle.mcf_lower.specs.Circulation.{IsCirculation, cost, reduced_cost, inflow, outflow}
 use Rattle.mcf_lower.specs.Laws.{CutExcludes, WeakDuality, FitsCheapest}

@@ -2,7 +2,7 @@ use Rattle.std.proofs.Common.{◌≡◌, ℕ, ◌+◌, ◌-◌, ◌<◌, ◌≤�
 use Rattle.std.proofs.lemmas.Bool.{cases_lt, cases_eq}
 use Rattle.mcf_lower.specs.declared.edge.Edge.{Edge}
 use Rattle.mcf_lower.specs.declared.labels.Labels.{Labels}
-use Rattle.mcf_lower.specs.Sums.{sum_to}
+use Rattle.tqd_base.specs.Sum.{sum_to}
 use Rattle.mcf_lower.specs.Net.{Network, IsNetwork, arc_of, flow_max}
 use Rattle.mcf_lower.specs.Edges.{edges, along, back, edge_of, partner_of}
 use Rattle.mcf_lower.specs.Tree.{IsPriced}

@@ -2,7 +2,7 @@ use Rattle.std.proofs.Common.{◌≡◌, ℕ, zero, suc, ◌+◌, ◌-◌, ◌*�
 use Rattle.std.proofs.lemmas.Bool.{cases_lt, cases_eq, lt-ltb, le-ltb}
 use Rattle.mcf_lower.specs.declared.net.Arc.{Arc}
 use Rattle.mcf_lower.specs.declared.edge.Edge.{Edge}
-use Rattle.mcf_lower.specs.Sums.{sum_to}
+use Rattle.tqd_base.specs.Sum.{sum_to}
 use Rattle.mcf_lower.specs.Net.{Network, IsNetwork, arc_of, flow_max}
 use Rattle.mcf_lower.specs.Tree.{IsPriced}
 use Rattle.mcf_lower.specs.Pseudoflow.{carried, IsBounded, IsBalanced, first_along, first_back, first_room, AreFirstRooms, AreSums}

@@ -1,6 +1,6 @@
 use Rattle.std.specs.Prelude.{ℕ, ◌≡◌, ◌*◌, ◌<◌, ◌≤◌, ℤ, pos, ◌+ℤ◌, ◌-ℤ◌, ◌<ℤ◌, Bool, not, ◌&&◌, ◌==◌, length, if◌then◌else◌}
 use Rattle.mcf_lower.specs.Net.{Network, arc_of}
-use Rattle.mcf_lower.specs.Sums.{sum_to}
+use Rattle.tqd_base.specs.Sum.{sum_to}
 
 -- Lower bounds are never below 0, so the units on each arc are a natural number.
 

@@ -1,6 +1,6 @@
 use Rattle.std.specs.Prelude.{ℕ, ◌≤◌, ℤ, pos, ◌*ℤ◌, ◌≤ℤ◌, int_lt, Bool, length, if◌then◌else◌}
 use Rattle.mcf_lower.specs.Net.{Network, IsNetwork, arc_of}
-use Rattle.mcf_lower.specs.Sums.{signed_sum_to}
+use Rattle.tqd_base.specs.Sum.{signed_sum_to}
 use Rattle.mcf_lower.specs.Circulation.{IsCirculation, IsCut, Fits, cost, reduced_cost}
 
 abbrev pub CutExcludes : Type 0

@@ -1,5 +1,4 @@
 pub mod Net
-pub mod Sums
 pub mod Circulation
 pub mod Laws
 pub mod Edges

@@ -5,7 +5,7 @@ use Rattle.mcf_lower.specs.declared.labels.TheConstants.{UNSETTLED}
 use Rattle.mcf_lower.specs.declared.pseudoflow.Pseudoflow.{Pseudoflow}
 use Rattle.mcf_lower.specs.Net.{Network, IsNetwork, arc_of}
 use Rattle.mcf_lower.specs.declared.net.TheConstants.{NODES_MAX}
-use Rattle.mcf_lower.specs.Sums.{sum_to}
+use Rattle.tqd_base.specs.Sum.{sum_to}
 use Rattle.mcf_lower.specs.Circulation.{inflow, outflow}
 use Rattle.mcf_lower.specs.Edges.{edges, edge_of}
 use Rattle.mcf_lower.specs.Tree.{IsPriced, Tree}

@@ -1,3 +1,4 @@
+pub mod Sum
 pub mod World
 pub mod Calls
 pub mod Stops

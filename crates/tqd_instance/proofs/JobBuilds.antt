@@ -9,7 +9,7 @@ use Rattle.tqd_instance.specs.declared.parts.Over.{Over}
 use Rattle.tqd_instance.specs.declared.parts.Over.TheVariants.{Percent, Any as AnyAmount}
 use Rattle.tqd_instance.specs.declared.parts.OverRow.{OverRow}
 use Rattle.tqd_instance.specs.PartsData.{PartsData}
-use Rattle.tqd_instance.specs.Sum.{sum_to}
+use Rattle.tqd_base.specs.Sum.{sum_to}
 use Rattle.tqd_instance.specs.Offer.{no_supplier}
 use Rattle.tqd_instance.specs.JobFacts.{IsGood, IsJob}
 use Rattle.tqd_instance.specs.Parts.{IsOver, IsOverRow, IsWellFormed}

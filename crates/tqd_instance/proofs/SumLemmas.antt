@@ -2,14 +2,12 @@
 use Rattle.std.proofs.Common.{ℕ, suc, zero, ◌≡◌, ◌+◌, ◌*◌, ◌<◌, ◌≤◌, arith, refl, ap, ◌∙◌, sym, add-one, inl, inr}
 use Rattle.std.proofs.Math.Nat.{mul-add}
 use Rattle.std.proofs.lemmas.Bool.{cases_lt}
-use Rattle.tqd_instance.specs.Sum.{sum_to}
+use Rattle.tqd_base.specs.Sum.{sum_to}
 
 pub sum_to-zero : (f : ℕ → ℕ) → sum_to 0 f ≡ 0
-unfolding sum_to
 sum_to-zero f = refl
 
 pub sum_to-suc : (n : ℕ) (f : ℕ → ℕ) → sum_to (suc n) f ≡ sum_to n f + f n
-unfolding sum_to
 sum_to-suc n f = refl
 
 pub sum_to-more : (n : ℕ) (f : ℕ → ℕ) → sum_to (n + 1) f ≡ sum_to n f + f n

@@ -11,7 +11,7 @@ use Rattle.tqd_instance.specs.declared.parts.OverRow.{OverRow}
 use Rattle.tqd_instance.specs.declared.parts.JobFault.{JobFault}
 use Rattle.tqd_instance.specs.declared.parts.JobFault.TheVariants.{TooManyGoods, MissingPrice, ShareOrder, WinnerOrder}
 use Rattle.tqd_instance.specs.PartsData.{PartsData}
-use Rattle.tqd_instance.specs.Sum.{sum_to}
+use Rattle.tqd_base.specs.Sum.{sum_to}
 use Rattle.tqd_instance.specs.Offer.{no_supplier}
 use Rattle.tqd_instance.specs.Parts.{WHOLE, AreFroms, froms_stated}
 

@@ -1,7 +1,7 @@
 -- What a purchase costs, in millionths of the currency.
 use Rattle.std.specs.Prelude.{ℕ, ◌+◌, ◌*◌, ◌==◌, if◌then◌else◌, unwrap_or}
 use Rattle.tqd_instance.specs.declared.job.Job.{Job}
-use Rattle.tqd_instance.specs.Sum.{sum_to}
+use Rattle.tqd_base.specs.Sum.{sum_to}
 use Rattle.tqd_instance.specs.Job.{goods, suppliers, price, fee, pick}
 use Rattle.tqd_instance.specs.Purchase.{Purchase, total}
 

@@ -1,4 +1,3 @@
-pub mod Sum
 pub mod Offer
 pub mod JobFacts
 pub mod Job

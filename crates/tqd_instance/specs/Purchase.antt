@@ -1,7 +1,7 @@
 -- A purchase, and what follows from it alone.
 use Rattle.std.specs.Prelude.{ℕ, ◌==◌, if◌then◌else◌}
 use Rattle.tqd_instance.specs.declared.job.Job.{Job}
-use Rattle.tqd_instance.specs.Sum.{sum_to}
+use Rattle.tqd_base.specs.Sum.{sum_to}
 use Rattle.tqd_instance.specs.Job.{goods, suppliers}
 
 -- a purchase: the units x i k that are bought from supplier i of good k. Only the places of the job's size count

@@ -1,5 +1,5 @@
 ghost use Rattle.std.specs.Prelude.{◌≡◌, ◌<◌, ◌≤◌, ◌*◌, ℕ, IfOk, IfErr, IfSome, IsSomeAnd, OnOk, MatchOption, IsTrue, ◌↔◌, length, find, slice_index_or};
-ghost use Rattle.tqd_instance.specs.Sum.{sum_to};
+ghost use Rattle.tqd_base.specs.Sum.{sum_to};
 ghost use Rattle.tqd_instance.specs.Offer.{no_supplier};
 ghost use Rattle.tqd_instance.specs.Parts.{IsOver, IsWellFormed};
 ghost use Rattle.tqd_instance.specs.Built.{

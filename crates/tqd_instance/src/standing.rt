@@ -1,5 +1,5 @@
 ghost use Rattle.std.specs.Prelude.{◌≡◌, ◌+◌, ◌*◌, ◌<◌, ◌≤◌, ℕ, MatchOption};
-ghost use Rattle.tqd_instance.specs.Sum.{sum_to};
+ghost use Rattle.tqd_base.specs.Sum.{sum_to};
 ghost use Rattle.tqd_instance.specs.Job.{goods, suppliers, stock, price, segments};
 ghost use Rattle.tqd_instance.specs.Plan.{units, IsSizedFor};
 ghost use Rattle.tqd_instance.specs.Purchase.{total, bought, winners};

@@ -5,7 +5,7 @@ use Rattle.tqd_instance.specs.declared.job.Job.{Job}
 use Rattle.tqd_instance.specs.declared.parts.PriceRow.{PriceRow}
 use Rattle.tqd_instance.specs.declared.standing.Standing.{Standing}
 use Rattle.tqd_instance.specs.declared.standing.Standing.TheVariants.{Feasible as IsFeasible, Need, Stock, Gap, Winners}
-use Rattle.tqd_instance.specs.Sum.{sum_to}
+use Rattle.tqd_base.specs.Sum.{sum_to}
 use Rattle.tqd_instance.specs.Job.{goods, suppliers, need, most, fee, price, pick, supplier_at}
 use Rattle.tqd_instance.specs.Purchase.{Purchase, total, bought, wins, winners}
 use Rattle.tqd_instance.specs.Feasible.{Feasible}

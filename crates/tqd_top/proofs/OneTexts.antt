@@ -4,7 +4,7 @@ use Rattle.std.specs.Prelude.{if◌then◌else◌, ◌==◌, unwrap_or, codes, d
 use Rattle.money.specs.Price.{cost_text}
 use Rattle.tqd_base.specs.World.{Bytes}
 use Rattle.tqd_instance.specs.declared.job.Job.{Job}
-use Rattle.tqd_instance.specs.Sum.{sum_to}
+use Rattle.tqd_base.specs.Sum.{sum_to}
 use Rattle.tqd_instance.specs.Job.{low, price, pick, fee}
 use Rattle.tqd_instance.specs.Purchase.{Purchase, total}
 use Rattle.tqd_instance.specs.Cost.{cost, goods_cost, fee_cost, selected}

@@ -1,6 +1,6 @@
 use Rattle.std.proofs.Common.{◌≡◌, ◌*◌, ◌≤ℤ◌, neg_ℤ, pos}
 use Rattle.tqd_instance.specs.Job.{need, most}
-use Rattle.bound_tree.specs.Sums.{signed_sum_to}
+use Rattle.tqd_base.specs.Sum.{signed_sum_to}
 use Rattle.bound_tree.specs.Prices.{price_at}
 use Rattle.bound_tree.specs.Value.{least_times}
 use Rattle.bound_tree.proofs.value.goods_value.Given as goal

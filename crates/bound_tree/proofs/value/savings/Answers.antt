@@ -4,7 +4,7 @@ use Rattle.std.proofs.lemmas.Nat.{mul-le}
 use mir.Syntax.{w64}
 use mir.Val.{to_z, of_z}
 use Rattle.tqd_instance.specs.Job.{goods, price}
-use Rattle.bound_tree.specs.Sums.{signed_sum_to}
+use Rattle.tqd_base.specs.Sum.{signed_sum_to}
 use Rattle.bound_tree.specs.Prices.{price_at}
 use Rattle.bound_tree.specs.Value.{cap, least_gain}
 use Rattle.bound_tree.specs.Asked.{asked_of, charges_by}
@@ -13,7 +13,7 @@ use Rattle.bound_tree.proofs.SignedSums.{signed_sum_to-zero, signed_sum_to-more}
 use Rattle.bound_tree.proofs.value.savings.Goals as goal
 
 pub loop-k-init : goal.loop-k-init
-loop-k-init c = record { is_sum = sym (signed_sum_to-zero _); fits = omega arith }
+loop-k-init c = record { is_sum = refl; fits = omega arith }
 
 pub loop-k-preserved : goal.loop-k-preserved
 loop-k-preserved c =

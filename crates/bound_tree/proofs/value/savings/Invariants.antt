@@ -1,5 +1,5 @@
 use Rattle.std.proofs.Common.{◌≡◌, ◌*◌, ◌≤◌, neg_ℤ, pos}
-use Rattle.bound_tree.specs.Sums.{signed_sum_to}
+use Rattle.tqd_base.specs.Sum.{signed_sum_to}
 use Rattle.bound_tree.specs.Prices.{price_at}
 use Rattle.bound_tree.specs.Value.{cap, least_gain}
 use Rattle.bound_tree.specs.Asked.{charges_by}

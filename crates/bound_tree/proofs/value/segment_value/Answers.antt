@@ -1,7 +1,7 @@
 use Rattle.std.proofs.Common.{ℤ, ◌≡◌, ◌∙◌, ap, sym, pos, neg_ℤ, arith}
 use Rattle.std.proofs.lemmas.Int.{ints}
 use Rattle.tqd_instance.specs.Job.{goods, low, high, fee}
-use Rattle.bound_tree.specs.Sums.{signed_sum_to}
+use Rattle.tqd_base.specs.Sum.{signed_sum_to}
 use Rattle.bound_tree.specs.Prices.{price_at}
 use Rattle.bound_tree.specs.Value.{cap, least_gain, least_times}
 use Rattle.bound_tree.specs.Asked.{asked_of, charges_by}

@@ -3,7 +3,7 @@ use Rattle.std.specs.Int.{int_min}
 use Rattle.std.proofs.lemmas.Int.{ints, clamps}
 use Rattle.tqd_instance.proofs.Jobs.{job_in_range}
 use Rattle.interval_box.specs.Ranges.{low_of, high_of}
-use Rattle.bound_tree.specs.Sums.{least_from}
+use Rattle.bound_tree.specs.LeastFrom.{least_from}
 use Rattle.bound_tree.specs.Prices.{first_of, price_at}
 use Rattle.bound_tree.specs.Value.{segment_value}
 use Rattle.bound_tree.specs.Asked.{charges_by}

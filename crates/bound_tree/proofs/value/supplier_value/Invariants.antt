@@ -1,5 +1,5 @@
 use Rattle.std.proofs.Common.{◌≡◌, ◌+◌, ◌-◌, ◌≤ℤ◌, neg_ℤ, pos}
-use Rattle.bound_tree.specs.Sums.{least_from}
+use Rattle.bound_tree.specs.LeastFrom.{least_from}
 use Rattle.bound_tree.specs.Prices.{price_at}
 use Rattle.bound_tree.specs.Value.{segment_value}
 use Rattle.bound_tree.specs.Asked.{charges_by}

@@ -1,5 +1,5 @@
 use Rattle.std.proofs.Common.{◌≡◌, ◌*◌, ◌≤◌, ◌≤ℤ◌, neg_ℤ, pos}
-use Rattle.bound_tree.specs.Sums.{signed_sum_to}
+use Rattle.tqd_base.specs.Sum.{signed_sum_to}
 use Rattle.bound_tree.specs.Prices.{places_to, segment_price}
 use Rattle.bound_tree.specs.Value.{supplier_value}
 use Rattle.bound_tree.specs.Asked.{charges_by}

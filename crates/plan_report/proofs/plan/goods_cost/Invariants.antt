@@ -1,6 +1,6 @@
 use Rattle.std.proofs.Common.{◌≡◌, ◌*◌, ◌≤◌}
 use Rattle.tqd_base.specs.declared.limits.TheConstants.{QTY_MAX, PRICE_MAX}
-use Rattle.tqd_instance.specs.Sum.{sum_to}
+use Rattle.tqd_base.specs.Sum.{sum_to}
 use Rattle.tqd_instance.specs.Job.{price}
 use Rattle.tqd_instance.specs.Plan.{units}
 use Rattle.plan_report.proofs.plan.goods_cost.Given as goal

@@ -1,5 +1,5 @@
 use Rattle.std.proofs.Common.{◌≡◌, ◌≤◌}
-use Rattle.tqd_instance.specs.Sum.{sum_to}
+use Rattle.tqd_base.specs.Sum.{sum_to}
 use Rattle.interval_box.specs.Winners.{must_win}
 use Rattle.interval_box.proofs.boxes.IntervalBox.sure_winners.Given as goal
 

@@ -1,6 +1,6 @@
 use Rattle.std.proofs.Common.{◌≡◌, ◌+◌, ◌*◌, ◌≤◌}
 use Rattle.tqd_base.specs.declared.limits.TheConstants.{GOODS_MAX, QTY_MAX, PRICE_MAX}
-use Rattle.tqd_instance.specs.Sum.{sum_to}
+use Rattle.tqd_base.specs.Sum.{sum_to}
 use Rattle.tqd_instance.specs.Cost.{goods_cost, fee_cost}
 use Rattle.tqd_instance.specs.Plan.{units}
 use Rattle.tqd_instance.proofs.job.Job.cost.Given as goal

@@ -1,5 +1,5 @@
 use Rattle.std.proofs.Common.{◌≡◌, ◌≤◌}
-use Rattle.tqd_instance.specs.Sum.{sum_to}
+use Rattle.tqd_base.specs.Sum.{sum_to}
 use Rattle.tqd_instance.specs.Purchase.{wins}
 use Rattle.tqd_instance.specs.Plan.{units}
 use Rattle.tqd_instance.proofs.job.Job.winners_in.Given as goal

@@ -1,3 +1,4 @@
+-- Sums of a function's values at the first numbers.
 use Rattle.std.specs.Prelude.{ℕ, zero, suc, ◌+◌, ℤ, pos, ◌+ℤ◌}
 
 -- f 0 + f 1 + .. + f (n - 1)
