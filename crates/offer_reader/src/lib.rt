@@ -13,6 +13,7 @@ mod fault;
 mod offers;
 mod reading;
 mod rows;
+mod term_fault;
 #[cfg(test)]
 mod tests;
 mod wanted;
@@ -20,3 +21,4 @@ mod wanted;
 pub use book::OfferBook;
 pub use fault::OfferFault;
 pub use offers::read_offers;
+pub use term_fault::TermFault;
