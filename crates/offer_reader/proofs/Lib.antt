@@ -4,3 +4,11 @@ pub mod PriceFacts
 pub mod RowFacts
 pub mod TableFacts
 pub mod KnownNames
+pub mod Picked
+pub mod NumberFacts
+pub mod TermFacts
+pub mod KeyFacts
+pub mod RowTerms
+pub mod TermsFormed
+pub mod OffersFormed
+pub mod BookFormed

@@ -1,7 +1,7 @@
 ghost use Rattle.std.specs.Prelude.{◌≡◌, ◌<◌, ◌≤◌, ◌^◌, All, [], length, IfOk, OnOk};
 ghost use Rattle.tqd_base.specs.declared.limits.TheConstants.{SUPPLIERS_MAX};
 ghost use Rattle.bom_reader.specs.Faults.{Answers};
-ghost use Rattle.offer_reader.specs.Book.{book_in, parts_of};
+ghost use Rattle.offer_reader.specs.Book.{HasNoTerms, book_in, parts_of};
 ghost use Rattle.offer_reader.specs.Steps.{ReadsAll};
 
 use crate::book::OfferBook;
@@ -77,13 +77,17 @@ pub fn read_offers(
     bill: &Bill,
     needs: &Needs,
 ) -> Result<OfferBook, Stop<OfferFault>>
-    ensures { Answers result (book_in (record { names = bill.now.names; goods = needs.now.goods }) needs.now.units bytes.now) }
+    ensures answer { Answers result (book_in (record { names = bill.now.names; goods = needs.now.goods }) needs.now.units bytes.now) }
+    ensures no_terms { IfOk result (λ book. HasNoTerms book.parts) }
+    ensures needs { IfOk result (λ book. book.parts.needs ≡ needs.now.units) }
 {
     let table = offer_table(alloc, bytes)?;
     // A file has far fewer rows: this spares a bound on the number of a row.
     if table.len() > u32::MAX as usize {
         return Err(Stop::Memory);
     }
+    // There are as many goods as units that are needed of them.
+    let _ = needs.goods();
     let reading = read_rows(alloc, &table, bill.names(), needs)?;
     let Ok(parts) = parts_with(alloc, needs, &reading.goods) else {
         return Err(Stop::Memory);
@@ -91,13 +95,13 @@ pub fn read_offers(
     let OfferReading {
         sellers,
         offered,
-        goods,
+        goods: prices,
         ..
     } = reading;
     Ok(OfferBook {
         sellers,
         offered,
-        suppliers: goods.suppliers,
+        suppliers: prices.suppliers,
         parts,
     })
 }

@@ -6,12 +6,12 @@ use std::alloc::Global;
 use std::test::Fail;
 
 // The orders of 100 units of x and 50 of y, without a bill.
-fn bill_of_two(alloc: Global) -> Result<Bill, Fail> {
+pub(crate) fn bill_of_two(alloc: Global) -> Result<Bill, Fail> {
     let orders = read_orders(alloc, b"product,quantity\nx,100\ny,50\n").map_err(|_| "orders")?;
     Ok(no_bill(orders))
 }
 
-fn needs_of(alloc: Global, bill: &Bill) -> Result<Needs, Fail> {
+pub(crate) fn needs_of(alloc: Global, bill: &Bill) -> Result<Needs, Fail> {
     Ok(explode(alloc, bill).map_err(|_| "needs")?)
 }
 
