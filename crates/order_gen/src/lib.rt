@@ -1,0 +1,17 @@
+//! Jobs made from a seed, for trying the program and for measuring it.
+//!
+//! The generator is this program's own. It draws numbers by a linear congruence (`Draws` in `specs/`), first the need
+//! of each good, then for each supplier two discounts and a base price of each good; `GenParts` says which job they
+//! make.
+//!
+//! `make_job` makes that job, for every seed and every number of goods and suppliers within the limits, and promises
+//! that it has a feasible purchase: all that is needed, from one supplier.
+#![tactic(auto)]
+
+mod draws;
+mod make;
+mod offers;
+#[cfg(test)]
+mod tests;
+
+pub use make::make_job;
