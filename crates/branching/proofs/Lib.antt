@@ -1,0 +1,4 @@
+pub mod Paid
+pub mod LeastPrices
+pub mod Gaps
+pub mod Greatest
