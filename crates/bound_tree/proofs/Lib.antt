@@ -10,3 +10,17 @@ pub mod Soundness
 pub mod OneList
 pub mod HalfParts
 pub mod ValidTrees
+pub mod Cuts
+pub mod Numbers
+pub mod ReadLines
+pub mod RowReads
+pub mod Texts
+pub mod TreeLines
+pub mod Writing
+pub mod WritingLines
+pub mod LineTexts
+pub mod LineReads
+pub mod Unique
+pub mod PlanTexts
+pub mod TreeTexts
+pub mod LineLaws

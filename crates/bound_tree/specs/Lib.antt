@@ -5,3 +5,13 @@ pub mod Asked
 pub mod Narrowed
 pub mod Kills
 pub mod BoxTree
+pub mod Words
+pub mod LineWords
+pub mod ReadLine
+pub mod LineHead
+pub mod LineText
+pub mod TreeText
+pub mod WriteTree
+pub mod Reader
+pub mod Fields
+pub mod TextLaws

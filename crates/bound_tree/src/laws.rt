@@ -1,5 +1,8 @@
 //! What follows from the definitions alone: functions without a body that computes, whose contracts are the laws.
-ghost use Rattle.std.specs.Prelude.{ℕ, ℤ, pos, ◌≤ℤ◌, ◌↔◌, List, Option};
+ghost use Rattle.std.specs.Prelude.{ℕ, ℤ, pos, ◌≡◌, ◌≢◌, ◌≤◌, ◌≤ℤ◌, ◌↔◌, ◌++◌, List, [], length, Option, Some};
+ghost use Rattle.std.specs.List.{All};
+ghost use Rattle.tqd_base.specs.World.{Bytes};
+ghost use Rattle.tqd_base.specs.declared.limits.TheConstants.{LINE_MAX};
 ghost use Rattle.tqd_instance.specs.declared.job.Job.{Job};
 ghost use Rattle.tqd_instance.specs.Purchase.{Purchase};
 ghost use Rattle.tqd_instance.specs.Feasible.{Feasible};
@@ -10,9 +13,15 @@ ghost use Rattle.interval_box.specs.Halves.{IsProper};
 ghost use Rattle.bound_tree.specs.declared.leaf.Leaf.{Leaf};
 ghost use Rattle.bound_tree.specs.Prices.{Prices, Fits, row_of, AreFitting};
 ghost use Rattle.bound_tree.specs.Value.{value, free_value};
-ghost use Rattle.bound_tree.specs.Kills.{Kills, Shows};
-ghost use Rattle.bound_tree.specs.BoxTree.{BoxTree, IsValid, ShowsAll};
+ghost use Rattle.bound_tree.specs.Kills.{Kills, LeafFits, Shows};
+ghost use Rattle.bound_tree.specs.BoxTree.{BoxTree, nodes_of, IsValid, ShowsAll};
 ghost use Rattle.bound_tree.specs.Narrowed.{AreParts};
+ghost use Rattle.bound_tree.specs.declared.line.TreeLine.{TreeLine};
+ghost use Rattle.bound_tree.specs.ReadLine.{read_line};
+ghost use Rattle.bound_tree.specs.LineHead.{row_prices};
+ghost use Rattle.bound_tree.specs.LineText.{line_text, IsSpelled};
+ghost use Rattle.bound_tree.specs.TreeText.{leaf_line, tree_text};
+ghost use Rattle.bound_tree.specs.TextLaws.{HasQuantities, HasRows, AreSame};
 
 /// Prices in one list are a row that fits a box exactly where there are as many as the box calls for, and all in range.
 pub fn prices_fit_as_one_list()
@@ -48,4 +57,43 @@ pub fn killing_leaves_are_sound()
 pub fn valid_trees_are_sound()
     ensures { (job : Job) (area : IntervalBox) (best : Option ℕ) (tree : BoxTree)
         → IsBoxOf job area → IsValid job best area tree → ShowsAll job area best }
+{}
+
+/// A text is read as a line exactly where it is the text of that line: its word, and its numbers in their shortest
+/// spelling with one space before each. Each number has at most 23 digits, and the text at most 65,536 bytes.
+pub fn lines_are_read_by_their_texts()
+    ensures { (text : Bytes) (line : TreeLine)
+        → (read_line text ≡ Some line) ↔ (IsSpelled line × (text ≡ line_text line) × (length text ≤ LINE_MAX)) }
+{}
+
+/// No line has a line feed in it.
+pub fn lines_have_no_line_feed()
+    ensures { (line : TreeLine) → IsSpelled line → All (λ byte. byte ≢ 10) (line_text line) }
+{}
+
+/// A line without prices is short enough to be read back from its text.
+pub fn lines_of_counts_are_read_back()
+    ensures { (line : TreeLine) → IsSpelled line → row_prices line ≡ [] → read_line (line_text line) ≡ Some line }
+{}
+
+/// The line of a leaf whose row fits a box of a job is short enough to be read back from its text.
+pub fn lines_of_leaves_are_read_back()
+    ensures { (job : Job) (area : IntervalBox) (leaf : Leaf)
+        → IsBoxOf job area → LeafFits job area leaf → read_line (line_text (leaf_line leaf)) ≡ Some (leaf_line leaf) }
+{}
+
+/// For one job, with quantities within their limit and rows that have a price for each good, two texts are the same
+/// only where the trees are, and the purchases are the same on the job.
+pub fn tree_texts_differ()
+    ensures { (job : Job) (plan other : Option Purchase) (tree tree' : BoxTree)
+        → HasQuantities job plan → HasQuantities job other → HasRows job tree → HasRows job tree'
+        → tree_text job plan (nodes_of tree) ≡ tree_text job other (nodes_of tree')
+        → AreSame job plan other × (tree ≡ tree') }
+{}
+
+/// No such text is another with more bytes after it.
+pub fn no_tree_text_begins_another()
+    ensures { (job : Job) (plan other : Option Purchase) (tree tree' : BoxTree) (after : Bytes)
+        → HasQuantities job plan → HasQuantities job other → HasRows job tree → HasRows job tree'
+        → tree_text job plan (nodes_of tree) ++ after ≡ tree_text job other (nodes_of tree') → after ≡ [] }
 {}

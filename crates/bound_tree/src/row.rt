@@ -65,6 +65,20 @@ impl Row {
         self.places[at]
     }
 
+    /// The prices of the goods.
+    pub(crate) fn goods(&self) -> &[i64]
+        ensures { result.now ≡ self.now.goods }
+    {
+        &self.goods
+    }
+
+    /// The prices at the places of the box.
+    pub(crate) fn places(&self) -> &[i64]
+        ensures { result.now ≡ self.now.places }
+    {
+        &self.places
+    }
+
     /// The value of the row in its box, in millionths of the currency and within 10^30 of 0: no feasible purchase in the
     /// box costs less.
     pub fn value(&self, job: &Job, area: &IntervalBox) -> i128

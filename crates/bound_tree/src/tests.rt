@@ -21,7 +21,13 @@ fn price(supplier: u32, from: u64, good: u32, price: u64) -> PriceRow {
 }
 
 /// One good at one supplier, with two intervals: 0.10 from 1 and 0.08 from 100.
-fn steps(alloc: Global, need: u64, stock: u64, fee: u64, any: bool) -> Result<JobParts, Memory> {
+pub(crate) fn steps(
+    alloc: Global,
+    need: u64,
+    stock: u64,
+    fee: u64,
+    any: bool,
+) -> Result<JobParts, Memory> {
     let mut parts = JobParts::new(alloc, 1)?;
     parts.add_need(need)?;
     parts.add_price(price(0, 1, 0, 100_000))?;
@@ -55,14 +61,18 @@ fn two_suppliers(alloc: Global) -> Result<JobParts, Memory> {
     Ok(parts)
 }
 
-fn built(rt: &impl Abort, alloc: Global, parts: &JobParts) -> Result<Job, Stop<JobFault>> {
+pub(crate) fn built(
+    rt: &impl Abort,
+    alloc: Global,
+    parts: &JobParts,
+) -> Result<Job, Stop<JobFault>> {
     let formed = parts.is_well_formed(alloc)?;
     assert!(rt; formed);
     Job::build(alloc, parts)
 }
 
 /// The row of these prices, those of the goods first.
-fn row(
+pub(crate) fn row(
     rt: &impl Abort,
     alloc: Global,
     job: &Job,

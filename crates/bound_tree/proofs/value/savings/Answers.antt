@@ -1,4 +1,4 @@
-use Rattle.std.proofs.Common.{ℕ, ℤ, ap, ◌∙◌, ◌≡◌, ◌*◌, pos, neg_ℤ, refl, sym, arith}
+use Rattle.std.proofs.Common.{ℕ, ℤ, ap, ◌∙◌, ◌≡◌, ◌*◌, pos, neg_ℤ, refl, arith}
 use Rattle.std.proofs.lemmas.Int.{ints, to_z-of_z}
 use Rattle.std.proofs.lemmas.Nat.{mul-le}
 use mir.Syntax.{w64}
@@ -9,7 +9,7 @@ use Rattle.bound_tree.specs.Prices.{price_at}
 use Rattle.bound_tree.specs.Value.{cap, least_gain}
 use Rattle.bound_tree.specs.Asked.{asked_of, charges_by}
 use Rattle.bound_tree.proofs.PriceReads.{price_read, gain_computed, units_are}
-use Rattle.bound_tree.proofs.SignedSums.{signed_sum_to-zero, signed_sum_to-more}
+use Rattle.bound_tree.proofs.SignedSums.{signed_sum_to-more}
 use Rattle.bound_tree.proofs.value.savings.Goals as goal
 
 pub loop-k-init : goal.loop-k-init
