@@ -1,11 +1,15 @@
-//! Times the cheapest circulation on made nets of the shape that a bound has: a hub, suppliers and goods.
+//! Times the cheapest circulation on made nets of the shape that a bound has, a hub, suppliers and goods, and the bound
+//! of the root of a made job.
 //!
-//! It prints on standard output which nets have a circulation, the same in every run, and on standard error how long
-//! each took.
+//! It prints on standard output which nets have a circulation, and what the bound is, the same in every run, and on
+//! standard error how long each took.
 #![tactic(auto)]
 
 ghost use Rattle.std.specs.Prelude.{◌+◌, ◌≤◌};
 
+mod bounds;
+
+use crate::bounds::{GOODS, INTERVALS, SUPPLIERS, made_job, root_bound};
 use flow_prices::{Priced, cheapest};
 use mcf_lower::{ARCS_MAX, NODES_MAX, Net, NetArc};
 use std::alloc::Global;
@@ -183,5 +187,22 @@ fn main(rt: HostRuntime) -> io::Result<()> {
             took.as_micros()
         )?;
     }
+    let alloc = rt.alloc();
+    let Ok(Some(job)) = made_job(alloc) else {
+        return println!(rt; "no job");
+    };
+    let start = Instant::now(&rt)?;
+    let answer = root_bound(alloc, &job);
+    let took = start.elapsed(&rt)?;
+    let Ok(found) = answer else {
+        return println!(rt; "out of memory");
+    };
+    println!(rt;
+        "the root of {SUPPLIERS} suppliers, {GOODS} goods, {INTERVALS} intervals: {found}"
+    )?;
+    eprintln!(rt;
+        "the root of {SUPPLIERS} suppliers, {GOODS} goods, {INTERVALS} intervals: {} us",
+        took.as_micros()
+    )?;
     Ok(())
 }

@@ -63,6 +63,19 @@ impl Net {
         })
     }
 
+    /// A net of `nodes` nodes, numbered from 0, that has no arc, and memory for `room` arcs.
+    pub fn with_room(alloc: Global, nodes: u32, room: u32) -> Result<Net, Memory>
+        requires some { 1 ≤ nodes }
+        requires few { nodes ≤ NODES_MAX }
+        requires room { room ≤ ARCS_MAX }
+        ensures { IfOk result (λ n. n ≡ record { nodes = nodes; arcs = [] }) }
+    {
+        Ok(Net {
+            nodes,
+            arcs: Vec::with_capacity(alloc, room as usize)?,
+        })
+    }
+
     /// Adds an arc, and gives its number: the arcs are numbered from 0. Want of memory leaves the net as it was.
     pub fn add(&mut self, arc: NetArc) -> Result<u32, Memory>
         requires tail { arc.tail < self.old.nodes }

@@ -1,0 +1,14 @@
+pub mod FlatSums
+pub mod Ranges
+pub mod LeastPrices
+pub mod Nets
+pub mod Balances
+pub mod Matrices
+pub mod Relaxing
+pub mod Signs
+pub mod Values
+pub mod Duals
+pub mod NumberRows
+pub mod Singles
+pub mod Answering
+pub mod Feasibles

@@ -1,0 +1,4 @@
+pub mod Relaxed
+pub mod Bounded
+pub mod BoxNet
+pub mod NodeRow
