@@ -1,0 +1,12 @@
+pub mod FirstTo
+pub mod Standings
+pub mod Roots
+pub mod Stacks
+pub mod Leaves
+pub mod Heads
+pub mod Judging
+pub mod Dues
+pub mod Bytewise
+pub mod Pieces
+pub mod Runs
+pub mod Feeding

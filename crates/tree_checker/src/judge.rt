@@ -1,0 +1,290 @@
+ghost use Rattle.std.specs.Prelude.{◌≤◌, vec_len};
+ghost use Rattle.std.specs.List.{All};
+ghost use Rattle.tqd_instance.specs.Plan.{IsSizedFor};
+ghost use Rattle.interval_box.specs.Ranges.{IsBoxOf};
+
+use crate::buffer::LineBuffer;
+use crate::due::{Due, after_header, next_place, rejected, split_place};
+use crate::leaf::{PRICES_MAX, leaf_fault};
+use crate::rejection::{Rejection, Why};
+use crate::stack::BoxStack;
+use bound_tree::LineHead;
+use interval_box::IntervalBox;
+use std::alloc::Global;
+use tqd_base::Memory;
+use tqd_instance::{Job, Plan, Standing};
+
+/// What is kept of a text between two lines.
+#[derive(Debug, Drop)]
+pub(crate) struct Judge<'j> {
+    job: &'j Job,
+    due: Due,
+    plan: Plan,
+    prices: Vec<i64>,
+    boxes: BoxStack,
+    pub ghost sized: { IsSizedFor job.now plan },
+    pub ghost room: { 2024 ≤ vec_len prices },
+    pub ghost of_job: { All (IsBoxOf job.now) boxes },
+}
+
+impl<'j> Judge<'j> {
+    ghost use Rattle.std.specs.Prelude.{
+      ℕ,
+      ◌≡◌,
+      List,
+      [],
+      ◌∷◌,
+      None,
+      Some,
+      Ok,
+      Err,
+      IfOk,
+      IfSome,
+    };
+    ghost use Rattle.tqd_base.specs.World.{Bytes};
+    ghost use Rattle.tqd_instance.specs.Purchase.{Purchase};
+    ghost use Rattle.bound_tree.specs.ReadLine.{read_line};
+    ghost use Rattle.bound_tree.specs.LineHead.{head_of, prices_of};
+    ghost use Rattle.tree_checker.specs.Verdict.{
+      Phase,
+      at_header,
+      judged,
+      from_root,
+      when_bought,
+      nothing_bought,
+      after_split,
+      after_line,
+    };
+    ghost use Rattle.tree_checker.specs.ByHead.{
+      header_by_head,
+      plan_by_head,
+      buy_by_head,
+      leaf_by_head,
+      node_by_head,
+    };
+    ghost use Rattle.tree_checker.specs.Standing.{standing_of};
+    ghost use Rattle.tree_checker.specs.Buffer.{Keeps};
+    ghost use Rattle.tree_checker.specs.Stack.{IsFirst, without_first};
+    ghost use Rattle.tree_checker.specs.declared.due.Due.TheVariants.{Ended};
+    ghost use Rattle.tree_checker.specs.declared.rejection.Rejection.{Rejection};
+    ghost use Rattle.tqd_instance.specs.declared.job.Job.{Job};
+    ghost use Rattle.tqd_instance.specs.declared.plan.Plan.{Plan};
+    ghost use Rattle.interval_box.specs.declared.boxes.IntervalBox.{IntervalBox};
+    ghost use Rattle.tree_checker.specs.Judged.{HasUnits, IsDue, IsKept, Leads, has_none, is_whole_at};
+
+    /// Nothing is read, and the room is reserved that a text needs; nothing else here takes memory.
+    pub fn start(alloc: Global, job: &'j Job) -> Result<Judge<'j>, Memory>
+        ensures job { IfOk result (λ judge. judge.job.now ≡ job.now) }
+        ensures due { IfOk result (λ judge. IsDue job.now judge.due judge.plan judge.boxes at_header) }
+    {
+        Ok(Judge {
+            job,
+            due: Due::Header,
+            plan: Plan::zero(alloc, job.suppliers(), job.goods())?,
+            prices: vec![in alloc; 0; PRICES_MAX]?,
+            boxes: BoxStack::start(alloc)?,
+        })
+    }
+
+    /// Which line is due.
+    pub fn due(&self) -> Due
+        ensures { result ≡ self.now.due }
+    {
+        self.due
+    }
+
+    /// Whether no box is due.
+    pub fn has_no_box(&self) -> bool
+        ensures { result ≡ has_none self.now.boxes }
+    {
+        self.boxes.first().is_none()
+    }
+
+    /// Whether the tree is whole.
+    pub fn is_whole(&self) -> bool
+        ensures { result ≡ is_whole_at self.now.due self.now.boxes }
+    {
+        match self.due {
+            Due::Node(_) => self.has_no_box(),
+            _ => false,
+        }
+    }
+
+    /// No line is due any more.
+    pub fn end(&mut self, rejection: Rejection)
+        ensures job { self.new.job.now ≡ self.old.job.now }
+        ensures due { self.new.due ≡ Ended rejection }
+    {
+        self.due = Due::Ended(rejection);
+    }
+
+    /// Judges the line of this number.
+    pub fn judge(&mut self, line: u64, text: &LineBuffer)
+        ensures job { self.new.job.now ≡ self.old.job.now }
+        ensures kept { (phase : Phase) (bytes : Bytes) → IsDue self.old.job.now self.old.due self.old.plan self.old.boxes phase
+            → Keeps text.now bytes
+            → IsKept self.old.job.now self.new.due self.new.plan self.new.boxes (after_line self.old.job.now line phase (read_line bytes)) }
+    {
+        self.due = match self.after_line(line, text) {
+            Ok(due) => due,
+            Err(rejection) => Due::Ended(rejection),
+        };
+    }
+
+    fn after_line(&mut self, line: u64, text: &LineBuffer) -> Result<Due, Rejection>
+        ensures job { self.new.job.now ≡ self.old.job.now }
+        ensures leads { (phase : Phase) (bytes : Bytes) → IsDue self.old.job.now self.old.due self.old.plan self.old.boxes phase
+            → Keeps text.now bytes
+            → Leads self.old.job.now self.new.plan self.new.boxes result (after_line self.old.job.now line phase (read_line bytes)) }
+    {
+        let head = text.head();
+        match self.due {
+            Due::Header => after_header(line, head),
+            Due::Plan => self.after_plan(line, head),
+            Due::Buy { cost, left, next } => self.after_buy(line, cost, left, next, head),
+            Due::Node(best) => self.after_node(line, best, head, text.bytes()),
+            Due::Ended(rejection) => Err(rejection),
+        }
+    }
+
+    fn after_plan(&mut self, line: u64, head: Option<LineHead>) -> Result<Due, Rejection>
+        ensures job { self.new.job.now ≡ self.old.job.now }
+        ensures leads { HasUnits self.old.job.now self.old.plan nothing_bought
+            → Leads self.old.job.now self.new.plan self.new.boxes result (plan_by_head self.old.job.now line head) }
+    {
+        match head {
+            Some(LineHead::NoPlan) => Ok(self.from_root(None)),
+            Some(LineHead::Plan { cost, count }) => {
+                let places = self.job.suppliers() as u128 * self.job.goods() as u128;
+                if count <= places {
+                    self.when_bought(cost, count as u64, 0)
+                } else {
+                    rejected(line, Why::PlanForm)
+                }
+            }
+            _ => rejected(line, Why::PlanForm),
+        }
+    }
+
+    fn after_buy(
+        &mut self,
+        line: u64,
+        cost: u128,
+        left: u64,
+        next: u64,
+        head: Option<LineHead>,
+    ) -> Result<Due, Rejection>
+        ensures job { self.new.job.now ≡ self.old.job.now }
+        ensures leads { (x : Purchase) → HasUnits self.old.job.now self.old.plan x
+            → Leads self.old.job.now self.new.plan self.new.boxes result
+            (buy_by_head self.old.job.now line (record { cost = cost; left = left; next = next; bought = x }) head) }
+    {
+        let Some(
+            LineHead::Buy {
+                supplier,
+                good,
+                units,
+            },
+        ) = head
+        else {
+            return rejected(line, Why::PlanForm);
+        };
+        match next_place(self.job, next, supplier, good, units) {
+            Some(place) => {
+                self.plan
+                    .set(supplier as usize, good as usize, units as u64);
+                self.when_bought(cost, left.saturating_sub(1), place + 1)
+            }
+            None => rejected(line, Why::PlanForm),
+        }
+    }
+
+    // Where no `buy` line is due any more, the plan is judged as a whole.
+    fn when_bought(&mut self, cost: u128, left: u64, next: u64) -> Result<Due, Rejection>
+        ensures job { self.new.job.now ≡ self.old.job.now }
+        ensures leads { (x : Purchase) → HasUnits self.old.job.now self.old.plan x
+            → Leads self.old.job.now self.new.plan self.new.boxes result
+            (when_bought self.old.job.now (record { cost = cost; left = left; next = next; bought = x })) }
+    {
+        if left == 0 {
+            self.judged(cost)
+        } else {
+            Ok(Due::Buy { cost, left, next })
+        }
+    }
+
+    fn judged(&mut self, said: u128) -> Result<Due, Rejection>
+        ensures job { self.new.job.now ≡ self.old.job.now }
+        ensures leads { (x : Purchase) → HasUnits self.old.job.now self.old.plan x
+            → Leads self.old.job.now self.new.plan self.new.boxes result
+            (judged self.old.job.now said (standing_of self.old.job.now x)) }
+    {
+        match self.job.standing(&self.plan) {
+            Standing::Feasible(real) => {
+                if said == real {
+                    Ok(self.from_root(Some(said)))
+                } else {
+                    rejected(2, Why::PlanCost { said, real })
+                }
+            }
+            standing => rejected(2, Why::PlanStanding(standing)),
+        }
+    }
+
+    fn from_root(&mut self, best: Option<u128>) -> Due
+        ensures job { self.new.job.now ≡ self.old.job.now }
+        ensures leads { Leads self.old.job.now self.new.plan self.new.boxes (Ok result) (from_root self.old.job.now best) }
+    {
+        self.boxes.begin(self.job);
+        Due::Node(best)
+    }
+
+    fn after_node(
+        &mut self,
+        line: u64,
+        best: Option<u128>,
+        head: Option<LineHead>,
+        text: &[u8],
+    ) -> Result<Due, Rejection>
+        requires { IfSome head (λ h. head_of text.now ≡ Some h) }
+        ensures job { self.new.job.now ≡ self.old.job.now }
+        ensures leads { Leads self.old.job.now self.new.plan self.new.boxes result
+            (node_by_head self.old.job.now line best self.old.boxes head (prices_of text.now)) }
+    {
+        let Some(area) = self.boxes.first() else {
+            return rejected(line, Why::Trailing);
+        };
+        if let Some(LineHead::Split { supplier, at }) = head {
+            return self.after_split(line, best, &area, supplier, at);
+        }
+        match leaf_fault(self.job, best, &area, head, text, &mut self.prices) {
+            Some(why) => rejected(line, why),
+            None => {
+                self.boxes.drop_first();
+                Ok(Due::Node(best))
+            }
+        }
+    }
+
+    fn after_split(
+        &mut self,
+        line: u64,
+        best: Option<u128>,
+        area: &IntervalBox,
+        supplier: u128,
+        at: u128,
+    ) -> Result<Due, Rejection>
+        requires { IsFirst self.old.boxes (Some area.now) }
+        ensures job { self.new.job.now ≡ self.old.job.now }
+        ensures leads { Leads self.old.job.now self.new.plan self.new.boxes result
+            (after_split self.old.job.now line best area.now (without_first self.old.boxes) supplier at) }
+    {
+        match split_place(self.job, area, supplier, at) {
+            Some((i, s)) => {
+                self.boxes.split(i, s);
+                Ok(Due::Node(best))
+            }
+            None => rejected(line, Why::SplitRange),
+        }
+    }
+}

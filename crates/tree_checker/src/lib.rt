@@ -1,0 +1,26 @@
+//! The checker of trees: a verdict on a job that needs no trust in who wrote the text of the tree.
+//!
+//! `specs/Verdict` says what a text shows: it is read line by line, each line has its cases, and the first cause ends
+//! the reading. `Optimal(c)` and `NoPurchase` come where a whole tree of boxes was read, each leaf of which kills its box.
+//!
+//! A `CheckRun` reads the text in pieces. What it keeps is what the bytes fed lead to (`specs/Run`), so that `feed` and
+//! `finish` answer exactly by the verdict of those bytes, however they were cut. After `start` nothing takes memory.
+//! `check` gives the verdict of a text, and `check_from` that of what a desk's slot has left. `laws` promises that a
+//! rejection, but for an early end, is the same for every longer text.
+#![tactic(auto)]
+
+mod buffer;
+mod checking;
+mod due;
+mod judge;
+pub mod laws;
+mod leaf;
+mod rejection;
+mod run;
+mod stack;
+#[cfg(test)]
+mod tests;
+
+pub use checking::{CheckStop, check, check_from};
+pub use rejection::{Feed, Rejection, Verdict, Why};
+pub use run::CheckRun;
