@@ -1,0 +1,15 @@
+pub mod OneLine
+pub mod LeafFaults
+pub mod TreeReads
+pub mod Ends
+pub mod Agreeing
+pub mod CostsBelow
+pub mod Places
+pub mod BuyReads
+pub mod Showing
+pub mod Feasibles
+pub mod NextLines
+pub mod RowsFit
+pub mod TreesBack
+pub mod BuysBack
+pub mod Exact
