@@ -1,0 +1,11 @@
+pub mod Nodes
+pub mod BookState
+pub mod Events
+pub mod Later
+pub mod Covered
+pub mod Kept
+pub mod Runs
+pub mod Counts
+pub mod TreeOf
+pub mod Preorder
+pub mod Answers

@@ -1,0 +1,24 @@
+use bound_tree::Leaf;
+use interval_box::IntervalBox;
+
+/// What became of a node so far.
+#[derive(Debug, Drop)]
+pub enum Phase {
+    Open,
+    Taken,
+    /// The nodes of the low and of the high half, and the supplier and the number at which the box was split.
+    Split {
+        low: u64,
+        high: u64,
+        supplier: u32,
+        at: u8,
+    },
+    Closed(Leaf),
+}
+
+/// A box of the search, and what became of it so far.
+#[derive(Debug, Drop)]
+pub struct Node {
+    pub area: IntervalBox,
+    pub phase: Phase,
+}
