@@ -34,6 +34,18 @@ pub grows_thrice : (old p f n u a b new : Bytes) (r : Result (Unit {0}) Memory) 
 grows_thrice old p f n u a b new (Ok done) first second third = third ∙ ap (λ (t : Bytes). t ++ u) (second ∙ ap (λ (t : Bytes). t ++ n) first) ∙ simp append_assoc
 grows_thrice old p f n u a b new (Err stop) first second third = tt
 
+-- a text that grows by two pieces, and then by two more
+pub grows_by_pairs : (old a b c d t new : Bytes) (r : Result (Unit {0}) Memory) → t ≡ old ++ (a ++ b) → OnOk r (new ≡ t ++ (c ++ d)) → OnOk r (new ≡ old ++ (a ++ b ++ c ++ d))
+grows_by_pairs old a b c d t new (Ok done) first second = second ∙ ap (λ (z : Bytes). z ++ (c ++ d)) first ∙ simp append_assoc
+grows_by_pairs old a b c d t new (Err stop) first second = tt
+
+-- and then by one more
+pub grows_by_pairs_and : (old a b c d e t u new : Bytes) (r : Result (Unit {0}) Memory) → t ≡ old ++ (a ++ b) → u ≡ t ++ (c ++ d) → OnOk r (new ≡ u ++ e)
+    → OnOk r (new ≡ old ++ (a ++ b ++ c ++ d ++ e))
+grows_by_pairs_and old a b c d e t u new (Ok done) first second third =
+    third ∙ ap (λ (z : Bytes). z ++ e) (second ∙ ap (λ (z : Bytes). z ++ (c ++ d)) first) ∙ simp append_assoc
+grows_by_pairs_and old a b c d e t u new (Err stop) first second third = tt
+
 -- fields behind tabs
 tabbed : (fields : List (Bor Bytes)) → flat_map (λ (field : Bor Bytes). 9 ∷ field.now) fields ≡ flat_map (λ (field : Bytes). 9 ∷ field) (map (λ (field : Bor Bytes). field.now) fields)
 tabbed [] = refl

@@ -1,8 +1,6 @@
 -- The texts of the faults of input files.
 use Rattle.std.specs.Prelude.{ℕ, ◌<◌, List, [], ◌∷◌, ◌++◌, length, slice_index, codes, decimal}
 use Rattle.tqd_base.specs.World.{Bytes}
-use Rattle.csv_rows.specs.declared.fault.RowFault.{RowFault}
-use Rattle.csv_rows.specs.declared.fault.RowFault.TheVariants.{Empty, Header, Width, Text}
 use Rattle.bom_reader.specs.declared.fault.BillFault.{BillFault}
 use Rattle.bom_reader.specs.declared.fault.BillFault.TheVariants.{Rows, TooManyLines, Name, Quantity, TooManyNames, Twice}
 use Rattle.bom_explode.specs.declared.fault.ExplodeFault.{ExplodeFault}
@@ -10,10 +8,13 @@ use Rattle.bom_explode.specs.declared.fault.ExplodeFault.TheVariants.{Circle, Ne
 use Rattle.tqd_instance.specs.declared.parts.JobFault.{JobFault}
 use Rattle.tqd_instance.specs.declared.parts.JobFault.TheVariants.{TooManyGoods, MissingPrice, ShareOrder, WinnerOrder}
 use Rattle.plan_report.specs.Named.{name_at, good_at}
+use Rattle.plan_report.specs.RowText.{in_row, rows_cause}
+use Rattle.plan_report.specs.OfferText.{offer_cause}
+use Rattle.plan_report.specs.TermText.{term_cause}
 use Rattle.plan_report.specs.declared.file.InputFile.{InputFile}
 use Rattle.plan_report.specs.declared.file.InputFile.TheVariants.{Orders, Bill, Offers, Terms, Tree}
 use Rattle.plan_report.specs.declared.fault.FileFault.{FileFault}
-use Rattle.plan_report.specs.declared.fault.FileFault.TheVariants.{Size, Orders as InOrders, Bill as InBill, Explode as InExplosion, Job as InJob}
+use Rattle.plan_report.specs.declared.fault.FileFault.TheVariants.{Size, Orders as InOrders, Bill as InBill, Explode as InExplosion, Offers as InOffers, Terms as InTerms, Job as InJob}
 
 abbrev pub file_name : InputFile → Bytes
 file_name Orders = codes "orders"
@@ -22,22 +23,12 @@ file_name Offers = codes "offers"
 file_name Terms = codes "terms"
 file_name Tree = codes "tree"
 
--- what is wrong with a row; the header is row 1
-abbrev pub in_row : ℕ → Bytes → Bytes
-in_row at cause = codes "row " ++ decimal at ++ codes ": " ++ cause
-
 abbrev pub size_cause : InputFile → Bytes
 size_cause Tree = codes "more than 4611686018427387904 bytes"
 size_cause Orders = codes "more than 16777216 bytes"
 size_cause Bill = codes "more than 16777216 bytes"
 size_cause Offers = codes "more than 16777216 bytes"
 size_cause Terms = codes "more than 16777216 bytes"
-
-abbrev pub rows_cause : RowFault → Bytes
-rows_cause Empty = codes "no header"
-rows_cause Header = codes "wrong header"
-rows_cause (Width at found) = in_row at (decimal found ++ codes " fields")
-rows_cause (Text at field) = in_row at (codes "field " ++ decimal field ++ codes " is not UTF-8")
 
 abbrev pub bill_cause : BillFault → Bytes
 bill_cause (Rows fault) = rows_cause fault
@@ -68,6 +59,8 @@ fault_file (Size file) = file_name file
 fault_file (InOrders fault) = codes "orders"
 fault_file (InBill fault) = codes "bill"
 fault_file (InExplosion fault) = codes "bill"
+fault_file (InOffers fault) = codes "offers"
+fault_file (InTerms fault) = codes "terms"
 fault_file (InJob fault) = codes "job"
 
 -- what a fault says of it
@@ -76,6 +69,8 @@ fault_cause names goods suppliers (Size file) = size_cause file
 fault_cause names goods suppliers (InOrders fault) = bill_cause fault
 fault_cause names goods suppliers (InBill fault) = bill_cause fault
 fault_cause names goods suppliers (InExplosion fault) = explode_cause names fault
+fault_cause names goods suppliers (InOffers fault) = offer_cause fault
+fault_cause names goods suppliers (InTerms fault) = term_cause fault
 fault_cause names goods suppliers (InJob fault) = job_cause names goods suppliers fault
 
 unfoldable pub fault_text : List Bytes → List ℕ → List Bytes → FileFault → Bytes
@@ -100,6 +95,8 @@ IsFaultNamed names goods suppliers (Size file) = Unit {0}
 IsFaultNamed names goods suppliers (InOrders fault) = Unit {0}
 IsFaultNamed names goods suppliers (InBill fault) = Unit {0}
 IsFaultNamed names goods suppliers (InExplosion fault) = IsExplodeFaultNamed names fault
+IsFaultNamed names goods suppliers (InOffers fault) = Unit {0}
+IsFaultNamed names goods suppliers (InTerms fault) = Unit {0}
 IsFaultNamed names goods suppliers (InJob fault) = IsJobFaultNamed names goods suppliers fault
 
 -- a file that could not be read

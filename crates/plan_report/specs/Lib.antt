@@ -4,4 +4,8 @@ pub mod PlanText
 pub mod NeedsText
 pub mod AnswerText
 pub mod Usage
+pub mod RowText
+pub mod OfferText
+pub mod TermText
 pub mod FaultText
+pub mod RejectionText

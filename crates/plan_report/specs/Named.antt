@@ -1,5 +1,5 @@
 -- The names of goods and suppliers that a text has.
-use Rattle.std.specs.Prelude.{ℕ, ◌≡◌, ◌<◌, List, [], length, slice_index, slice_index_or, All}
+use Rattle.std.specs.Prelude.{ℕ, List, [], slice_index, slice_index_or}
 use Rattle.tqd_base.specs.World.{Bytes}
 
 -- the name with a number

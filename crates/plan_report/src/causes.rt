@@ -1,5 +1,8 @@
 ghost use Rattle.std.specs.Prelude.{◌≡◌, ◌++◌, IfOk, OnOk};
-ghost use Rattle.plan_report.specs.FaultText.{IsExplodeFaultNamed, IsFaultNamed, IsJobFaultNamed, bill_cause, explode_cause, fault_cause, fault_file, fault_text, file_name, in_row, job_cause, no_price, rows_cause, size_cause, unread_text};
+ghost use Rattle.plan_report.specs.FaultText.{IsExplodeFaultNamed, IsFaultNamed, IsJobFaultNamed, bill_cause, explode_cause, fault_cause, fault_file, fault_text, file_name, job_cause, no_price, size_cause, unread_text};
+ghost use Rattle.plan_report.specs.OfferText.{offer_cause};
+ghost use Rattle.plan_report.specs.RowText.{in_row, rows_cause};
+ghost use Rattle.plan_report.specs.TermText.{term_cause};
 
 use crate::fault::FileFault;
 use crate::file::InputFile;
@@ -8,6 +11,7 @@ use crate::text::{add_number, add_word};
 use bom_explode::ExplodeFault;
 use bom_reader::{BillFault, NameList};
 use csv_rows::RowFault;
+use offer_reader::{OfferFault, TermFault};
 use std::alloc::Global;
 use tqd_base::Memory;
 use tqd_instance::JobFault;
@@ -98,6 +102,44 @@ fn add_explode_cause(
     }
 }
 
+fn add_offer_cause(alloc: Global, text: &mut Vec<u8>, fault: OfferFault) -> Result<(), Memory>
+    ensures { OnOk result (text.new.items ≡ text.old.items ++ offer_cause fault) }
+{
+    match fault {
+        OfferFault::Rows(fault) => add_rows_cause(alloc, text, fault),
+        OfferFault::Name { at } => add_in_row(alloc, text, at, "bad name"),
+        OfferFault::From { at } => add_in_row(alloc, text, at, "bad from"),
+        OfferFault::Price { at } => add_in_row(alloc, text, at, "bad price"),
+        OfferFault::Twice { at } => add_in_row(alloc, text, at, "given twice"),
+        OfferFault::TooManySuppliers { at } => {
+            add_in_row(alloc, text, at, "more than 64 suppliers")
+        }
+        OfferFault::TooManyIntervals { at } => {
+            add_in_row(alloc, text, at, "more than 16 intervals")
+        }
+    }
+}
+
+#[tactic(auto, using(crate::proofs::Texts::appends))]
+fn add_term_cause(alloc: Global, text: &mut Vec<u8>, fault: TermFault) -> Result<(), Memory>
+    ensures { OnOk result (text.new.items ≡ text.old.items ++ term_cause fault) }
+{
+    match fault {
+        TermFault::Rows(fault) => add_rows_cause(alloc, text, fault),
+        TermFault::UnknownKind { at } => add_in_row(alloc, text, at, "unknown kind"),
+        TermFault::OrderMultiple { at } => {
+            add_in_row(alloc, text, at, "order multiples are not supported")
+        }
+        TermFault::Field { at, field } => {
+            add_in_row(alloc, text, at, "bad field ")?;
+            add_number(alloc, text, field)
+        }
+        TermFault::UnknownSupplier { at } => add_in_row(alloc, text, at, "unknown supplier"),
+        TermFault::UnknownPart { at } => add_in_row(alloc, text, at, "unknown part"),
+        TermFault::Twice { at } => add_in_row(alloc, text, at, "given twice"),
+    }
+}
+
 fn add_no_price(
     alloc: Global,
     text: &mut Vec<u8>,
@@ -155,6 +197,8 @@ fn fault_file(fault: &FileFault) -> &'static str
         FileFault::Orders(_) => "orders",
         FileFault::Bill(_) => "bill",
         FileFault::Explode(_) => "bill",
+        FileFault::Offers(_) => "offers",
+        FileFault::Terms(_) => "terms",
         FileFault::Job(_) => "job",
     }
 }
@@ -173,6 +217,8 @@ fn add_cause(
         FileFault::Orders(fault) => add_bill_cause(alloc, text, *fault),
         FileFault::Bill(fault) => add_bill_cause(alloc, text, *fault),
         FileFault::Explode(fault) => add_explode_cause(text, *fault, names),
+        FileFault::Offers(fault) => add_offer_cause(alloc, text, *fault),
+        FileFault::Terms(fault) => add_term_cause(alloc, text, *fault),
         FileFault::Job(fault) => add_job_cause(alloc, text, *fault, names),
     }
 }

@@ -1,6 +1,7 @@
 use crate::file::InputFile;
 use bom_explode::ExplodeFault;
 use bom_reader::BillFault;
+use offer_reader::{OfferFault, TermFault};
 use tqd_instance::JobFault;
 
 /// The first fault of the files that a command reads.
@@ -14,6 +15,10 @@ pub enum FileFault {
     Bill(BillFault),
     /// The bill has a circle, or a need that is too great.
     Explode(ExplodeFault),
+    /// A fault of the offers.
+    Offers(OfferFault),
+    /// A fault of the terms.
+    Terms(TermFault),
     /// A fault of the job that the files state.
     Job(JobFault),
 }

@@ -1,19 +1,15 @@
 ghost use Rattle.std.specs.Prelude.{IfOk};
 ghost use Rattle.tqd_instance.specs.Plan.{IsSizedFor};
 
-use crate::{
-    FileFault, InputFile, accepted_text, fault_text, infeasible_text, needs_text, plan_text,
-    summary_text, unread_text, usage_text,
-};
-use bom_explode::{ExplodeFault, explode};
-use bom_reader::{BillFault, NameList, no_bill, read_bill, read_orders};
-use csv_rows::RowFault;
+use crate::{accepted_text, infeasible_text, needs_text, plan_text, summary_text, usage_text};
+use bom_explode::explode;
+use bom_reader::{NameList, no_bill, read_bill, read_orders};
 use std::alloc::Global;
 use std::process::Abort;
 use std::test::Fail;
 use tqd_base::Memory;
 use tqd_base::limits::{QTY_MAX, SUPPLIERS_MAX};
-use tqd_instance::{FeeRow, Job, JobFault, JobParts, Plan, PriceRow, Standing};
+use tqd_instance::{FeeRow, Job, JobParts, Plan, PriceRow, Standing};
 
 /// Prices of one unit in millionths: the supplier, the least total, the good, the price.
 type Prices = &'static [(u32, u64, u32, u64)];
@@ -55,7 +51,7 @@ struct Case<'a> {
 }
 
 // The names as a list.
-fn list_of(alloc: Global, names: &[&str]) -> Result<NameList, Memory> {
+pub(crate) fn list_of(alloc: Global, names: &[&str]) -> Result<NameList, Memory> {
     let mut list = NameList::empty(alloc);
     for name in names {
         list.add(name)?;
@@ -258,100 +254,6 @@ fn nothing_is_bought(rt: HostRuntime) -> Result<(), Fail> {
 }
 
 #[test]
-fn files_that_are_not_read(rt: HostRuntime) -> Result<(), Fail> {
-    let alloc = rt.alloc();
-    for (file, unread, size) in [
-        (
-            InputFile::Orders,
-            "cannot read orders\n",
-            "bad input: orders: more than 16777216 bytes\n",
-        ),
-        (
-            InputFile::Bill,
-            "cannot read bill\n",
-            "bad input: bill: more than 16777216 bytes\n",
-        ),
-        (
-            InputFile::Offers,
-            "cannot read offers\n",
-            "bad input: offers: more than 16777216 bytes\n",
-        ),
-        (
-            InputFile::Terms,
-            "cannot read terms\n",
-            "bad input: terms: more than 16777216 bytes\n",
-        ),
-        (
-            InputFile::Tree,
-            "cannot read tree\n",
-            "bad input: tree: more than 4611686018427387904 bytes\n",
-        ),
-    ] {
-        assert_eq!(rt; unread_text(alloc, file)?.as_slice(), unread.as_bytes());
-        let none = NameList::empty(alloc);
-        let printed = fault_text(alloc, &FileFault::Size(file), &none, &[], &none)?;
-        assert_eq!(rt; printed.as_slice(), size.as_bytes());
-    }
-    Ok(())
-}
-
-#[test]
-fn faults_of_orders_and_bills(rt: HostRuntime) -> Result<(), Fail> {
-    let alloc = rt.alloc();
-    let none = NameList::empty(alloc);
-    for (fault, cause) in [
-        (BillFault::Rows(RowFault::Empty), "no header"),
-        (BillFault::Rows(RowFault::Header), "wrong header"),
-        (
-            BillFault::Rows(RowFault::Width { at: 2, found: 1 }),
-            "row 2: 1 fields",
-        ),
-        (
-            BillFault::Rows(RowFault::Text { at: 10, field: 3 }),
-            "row 10: field 3 is not UTF-8",
-        ),
-        (BillFault::TooManyLines, "more than 100000 lines"),
-        (BillFault::Name { at: 2 }, "row 2: bad name"),
-        (BillFault::Quantity { at: 3 }, "row 3: bad quantity"),
-        (
-            BillFault::TooManyNames { at: 10_002 },
-            "row 10002: more than 20000 names",
-        ),
-        (BillFault::Twice { at: 4 }, "row 4: given twice"),
-    ] {
-        let orders = format!(in alloc; "bad input: orders: {cause}\n")?;
-        let printed = fault_text(alloc, &FileFault::Orders(fault), &none, &[], &none)?;
-        assert_eq!(rt; printed.as_slice(), orders.as_bytes());
-        let bill = format!(in alloc; "bad input: bill: {cause}\n")?;
-        let printed = fault_text(alloc, &FileFault::Bill(fault), &none, &[], &none)?;
-        assert_eq!(rt; printed.as_slice(), bill.as_bytes());
-    }
-    Ok(())
-}
-
-#[test]
-fn faults_of_the_explosion(rt: HostRuntime) -> Result<(), Fail> {
-    let alloc = rt.alloc();
-    let none = NameList::empty(alloc);
-    let names = list_of(alloc, &["p", "q", "r"])?;
-    assert!(rt; names.len() == 3);
-    for (fault, text) in [
-        (
-            ExplodeFault::Circle(0),
-            "bad input: bill: circle through p\n",
-        ),
-        (
-            ExplodeFault::NeedRange(2),
-            "bad input: bill: need of r above 100000000\n",
-        ),
-    ] {
-        let printed = fault_text(alloc, &FileFault::Explode(fault), &names, &[], &none)?;
-        assert_eq!(rt; printed.as_slice(), text.as_bytes());
-    }
-    Ok(())
-}
-
-#[test]
 fn needs_of_pumps_and_valves(rt: HostRuntime) -> Result<(), Fail> {
     let alloc = rt.alloc();
     let orders = read_orders(alloc, b"product,quantity\npump,40\nvalve,25\n")?;
@@ -380,41 +282,6 @@ fn no_needs(rt: HostRuntime) -> Result<(), Fail> {
     let count = bill.names().len();
     assert!(rt; needs.goods().iter().all(|n| (*n as usize) < count));
     assert!(rt; needs_text(alloc, &bill, &needs)?.is_empty());
-    Ok(())
-}
-
-#[test]
-fn faults_of_jobs(rt: HostRuntime) -> Result<(), Fail> {
-    let alloc = rt.alloc();
-    let names = list_of(alloc, &["pump", "x", "y"])?;
-    let suppliers = list_of(alloc, &["A", "B"])?;
-    assert!(rt; names.len() == 3);
-    assert!(rt; suppliers.len() == 2);
-    for (fault, text) in [
-        (
-            JobFault::TooManyGoods(1_001),
-            "bad input: job: 1001 goods, at most 1000\n",
-        ),
-        (
-            JobFault::MissingPrice {
-                supplier: 0,
-                from: 150,
-                good: 1,
-            },
-            "bad input: job: no price of y from 150 at A\n",
-        ),
-        (
-            JobFault::ShareOrder { supplier: 1 },
-            "bad input: job: share of B: low above high\n",
-        ),
-        (
-            JobFault::WinnerOrder,
-            "bad input: job: winners: low above high\n",
-        ),
-    ] {
-        let printed = fault_text(alloc, &FileFault::Job(fault), &names, &[1, 2], &suppliers)?;
-        assert_eq!(rt; printed.as_slice(), text.as_bytes());
-    }
     Ok(())
 }
 

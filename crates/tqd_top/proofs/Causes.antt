@@ -1,28 +1,22 @@
 -- From what was found and printed to the cause of the answer.
 use Rattle.std.proofs.Common.{ℕ, ◌≡◌, ◌≤◌, Bool, List, [], Option, None, Some, take, refl, sym, ◌∙◌, ap, subst, arith, inl, inr, ◌⊎◌}
-use Rattle.std.specs.Prelude.{IsSome, IfSome, unwrap_or}
-use Rattle.std.specs.Option.{option_map}
-use Rattle.tqd_base.specs.World.{World, State, Name, Bytes, NeverFall, Rose, bytes_at, print}
-use Rattle.plan_report.specs.declared.file.InputFile.TheVariants.{Orders, Bill, Offers as OffersFile, Terms, Tree as TreeFile}
+use Rattle.std.specs.Prelude.{Result, Ok, Err, IsSome}
+use Rattle.tqd_base.specs.World.{World, State, Name, Bytes, IsIdle, NeverFall, Rose, print, set_file}
+use Rattle.plan_report.specs.declared.file.InputFile.{InputFile}
+use Rattle.plan_report.specs.declared.file.InputFile.TheVariants.{Orders, Bill, Offers, Terms, Tree as TreeFile}
 use Rattle.tqd_top.specs.declared.answer.Target.TheVariants.{Tree, Out}
 use Rattle.tqd_top.specs.declared.answer.Answer.{Answer}
-use Rattle.tqd_top.specs.declared.answer.Answer.TheVariants.{Solved, Infeasible, Listed, Words, BadInput, NotBuilt, ReadFault, WriteFault, Memory}
-use Rattle.plan_report.specs.declared.file.InputFile.{InputFile}
-use Rattle.plan_report.specs.declared.fault.FileFault.{FileFault}
-use Rattle.tqd_top.specs.Listing.{IsUnreadBill, at_orders, at_bill}
-use Rattle.tqd_top.specs.Words.{Asked, FilesNamed, IsNoForm, IsSolve, IsNeeds, ToSolve, ToNeed, two_files}
-use Rattle.tqd_top.specs.Plain.{Order, Offers, plain_order, plain_offers}
-use Rattle.tqd_top.specs.Answers.{StatesOrder, StatesOffers, StatesNoOrder, StatesNoOffers, IsFound, IsReadFault, IsNeedsFound, IsNotBuilt, IsCutOff, HasCause, FailsOnlyInputs, IsJobGiven, IsFaultless, IsAnswerToJob, IsAnswerToNeeds, IsAnswerToNoForm}
-use Rattle.tqd_top.specs.Reads.{ReadsAs, FailsAt}
-use Rattle.tqd_top.specs.Runs.{FindsQuietly, PrintGives, Grows}
-
-rose_before : (a b c : ℕ) → Rose a b → b ≤ c → Rose a c
-unfolding Rose
-rose_before a b c rose le = omega arith
-
-rose_between : (a b c : ℕ) → a ≤ b → Rose b c → Rose a c
-unfolding Rose
-rose_between a b c le rose = omega arith
+use Rattle.tqd_top.specs.declared.answer.Answer.TheVariants.{Solved, Infeasible, Accepted, AcceptedNone, Rejected, Listed, Words, BadInput, NotBuilt, ReadFault, WriteFault, Memory}
+use Rattle.tqd_top.specs.declared.answer.Found.{Found}
+use Rattle.tqd_top.specs.declared.answer.Lost.{Lost}
+use Rattle.tqd_top.specs.declared.answer.Lost.TheVariants.{Tree as LostTree, Memory as WantsMemory}
+use Rattle.tqd_top.specs.Words.{Asked, FilesNamed, ToCheck, ToMake, ToNeed, ToSolve, command_of}
+use Rattle.tqd_top.specs.Reads.{FailsAt}
+use Rattle.tqd_top.specs.Unread.{FailsAtGiven, IsUnread, IsUnreadBill, IsUnreadWithTree}
+use Rattle.tqd_top.specs.Saves.{IsCutShort, saved}
+use Rattle.tqd_top.specs.Answers.{FailsOnlyInputs, HasCause, IsCutOff, IsFound, IsReadFault, IsUnreadBy}
+use Rattle.tqd_top.specs.Runs.{FindGives, Finds, Grows, IsQuiet, PrintGives}
+use Rattle.tqd_top.proofs.Readings.{falls_never, rose_before, rose_later}
 
 -- a reading fault that was found stands after the printing
 fails_still : (old mid new : State) (name : Name) → NeverFall mid.faults new.faults → new.failed_last ≡ mid.failed_last → FailsAt old mid name → FailsAt old new name
@@ -31,259 +25,158 @@ fails_still old mid new name falls kept f = record {
   named = λ told. kept ∙ f.named told;
 }
 
--- what the words of a `solve` and of a `needs` make of a fault stands after the printing
-solve_fault_still : (a : Bool) (old mid new : State) (words : List Name) (file : InputFile) (text : Bytes) → NeverFall mid.faults new.faults → new.failed_last ≡ mid.failed_last
-    → IsReadFault a old mid words file text → IsReadFault a old new words file text
-solve_fault_still a old mid new words Orders text falls kept f = (
-  record {
-    orders_name = f.0.orders_name;
-    offers_name = f.0.offers_name;
-    is_solve = f.0.is_solve;
-    fails = fails_still old mid new f.0.orders_name falls kept f.0.fails;
-  },
-  f.1,
-)
-solve_fault_still a old mid new words OffersFile text falls kept f = (
-  record {
-    orders_name = f.0.orders_name;
-    offers_name = f.0.offers_name;
-    is_solve = f.0.is_solve;
-    order = f.0.order;
-    orders_stated = f.0.orders_stated;
-    fails = fails_still old mid new f.0.offers_name falls kept f.0.fails;
-  },
-  f.1,
-)
-solve_fault_still a old mid new words Bill text falls kept f = absurd f
-solve_fault_still a old mid new words Terms text falls kept f = absurd f
-solve_fault_still a old mid new words TreeFile text falls kept f = absurd f
+given_still : (old mid new : State) (file : Option Name) → NeverFall mid.faults new.faults → new.failed_last ≡ mid.failed_last → FailsAtGiven old mid file → FailsAtGiven old new file
+given_still old mid new file falls kept f = (f.0, f.1, fails_still old mid new f.0 falls kept f.2)
 
-unread_still : (a : Bool) (old mid new : State) (orders_name : Name) (bill_name : Option Name) (file : InputFile) → NeverFall mid.faults new.faults → new.failed_last ≡ mid.failed_last
-    → IsUnreadBill a old mid orders_name bill_name file → IsUnreadBill a old new orders_name bill_name file
-unread_still a old mid new orders_name bill_name file falls kept (at_orders f) = at_orders (fails_still old mid new orders_name falls kept f)
-unread_still a old mid new orders_name bill_name file falls kept (at_bill {name = name} orders given f) = at_bill orders given (fails_still old mid new name falls kept f)
+bill_still : (a : Bool) (old mid new : State) (orders : Name) (bill : Option Name) (file : InputFile) → NeverFall mid.faults new.faults → new.failed_last ≡ mid.failed_last
+    → IsUnreadBill a old mid orders bill file → IsUnreadBill a old new orders bill file
+bill_still a old mid new orders bill Orders falls kept f = fails_still old mid new orders falls kept f
+bill_still a old mid new orders bill Bill falls kept f = (f.0, f.1, given_still old mid new bill falls kept f.2)
+bill_still a old mid new orders bill Offers falls kept f = f
+bill_still a old mid new orders bill Terms falls kept f = f
+bill_still a old mid new orders bill TreeFile falls kept f = f
 
-needs_fault_still : (a : Bool) (old mid new : State) (words : List Name) (file : InputFile) (text : Bytes) → NeverFall mid.faults new.faults → new.failed_last ≡ mid.failed_last
-    → IsNeedsFound a old mid words (ReadFault file) text → IsNeedsFound a old new words (ReadFault file) text
-needs_fault_still a old mid new words file text falls kept f = record {
-  orders_name = f.orders_name;
-  bill_name = f.bill_name;
-  is_needs = f.is_needs;
-  answers = record { unread = unread_still a old mid new f.orders_name f.bill_name file falls kept f.answers.unread; text_is = f.answers.text_is };
-}
+files_still : (a : Bool) (old mid new : State) (files : FilesNamed) (file : InputFile) → NeverFall mid.faults new.faults → new.failed_last ≡ mid.failed_last
+    → IsUnread a old mid files file → IsUnread a old new files file
+files_still a old mid new files Orders falls kept f = fails_still old mid new files.orders falls kept f
+files_still a old mid new files Bill falls kept f = (f.0, f.1, given_still old mid new files.bill falls kept f.2)
+files_still a old mid new files Offers falls kept f = (f.0, f.1, fails_still old mid new files.offers falls kept f.2)
+files_still a old mid new files Terms falls kept f = (f.0, f.1, given_still old mid new files.terms falls kept f.2)
+files_still a old mid new files TreeFile falls kept f = f
+
+tree_still : (a : Bool) (old mid new : State) (files : FilesNamed) (tree : Name) (file : InputFile) → NeverFall mid.faults new.faults → new.failed_last ≡ mid.failed_last
+    → IsUnreadWithTree a old mid files tree file → IsUnreadWithTree a old new files tree file
+tree_still a old mid new files tree Orders falls kept f = files_still a old mid new files Orders falls kept f
+tree_still a old mid new files tree Bill falls kept f = files_still a old mid new files Bill falls kept f
+tree_still a old mid new files tree Offers falls kept f = files_still a old mid new files Offers falls kept f
+tree_still a old mid new files tree Terms falls kept f = files_still a old mid new files Terms falls kept f
+tree_still a old mid new files tree TreeFile falls kept f = (f.0, f.1, fails_still old mid new tree falls kept f.2)
+
+unread_still : (a : Bool) (old mid new : State) (command : Asked) (file : InputFile) → NeverFall mid.faults new.faults → new.failed_last ≡ mid.failed_last
+    → IsUnreadBy a old mid command file → IsUnreadBy a old new command file
+unread_still a old mid new (ToSolve files tree None) file falls kept f = files_still a old mid new files file falls kept f
+unread_still a old mid new (ToSolve files tree (Some workers)) file falls kept f = f
+unread_still a old mid new (ToCheck files tree) file falls kept f = tree_still a old mid new files tree file falls kept f
+unread_still a old mid new (ToNeed orders bill) file falls kept f = bill_still a old mid new orders bill file falls kept f
+unread_still a old mid new (ToMake seed goods suppliers) file falls kept f = f
 
 -- the rest of what was found speaks of the state before
-needs_still : (a : Bool) (old mid new : State) (words : List Name) (fault : FileFault) (text : Bytes) → IsNeedsFound a old mid words (BadInput fault) text → IsNeedsFound a old new words (BadInput fault) text
-needs_still a old mid new words fault text f = record { orders_name = f.orders_name; bill_name = f.bill_name; is_needs = f.is_needs; answers = f.answers }
+found_still : (a : Bool) (old mid new : State) (between : World) (words : List Name) (answer : Answer) (text : Bytes) → NeverFall mid.faults new.faults → new.failed_last ≡ mid.failed_last
+    → IsFound a old mid between words answer text → IsFound a old new between words answer text
+found_still a old mid new between words (Solved plan amount) text falls kept f = f
+found_still a old mid new between words Infeasible text falls kept f = f
+found_still a old mid new between words (Accepted cost) text falls kept f = f
+found_still a old mid new between words AcceptedNone text falls kept f = f
+found_still a old mid new between words (Rejected rejection) text falls kept f = f
+found_still a old mid new between words Listed text falls kept f = f
+found_still a old mid new between words Words text falls kept f = f
+found_still a old mid new between words (BadInput fault) text falls kept f = f
+found_still a old mid new between words NotBuilt text falls kept f = f
+found_still a old mid new between words (ReadFault file) text falls kept f =
+    (f.0, record { command = f.1.command; words_are = f.1.words_are; unread = unread_still a old mid new f.1.command file falls kept f.1.unread; text_is = f.1.text_is })
+found_still a old mid new between words (WriteFault target) text falls kept f = absurd f
+found_still a old mid new between words Memory text falls kept f = absurd f
 
-listed_still : (a : Bool) (old mid new : State) (words : List Name) (text : Bytes) → IsNeedsFound a old mid words Listed text → IsNeedsFound a old new words Listed text
-listed_still a old mid new words text f = record { orders_name = f.orders_name; bill_name = f.bill_name; is_needs = f.is_needs; answers = f.answers }
+printed : (a : Bool) (old new : State) (between : World) (words : List Name) (answer : Answer) (text : Bytes) → IsFound a old new between words answer text
+    → new.world ≡ print between text → HasCause a old new words answer
+printed a old new between words (Solved plan amount) text f w = record { text = text; between = between; found = f; world = w }
+printed a old new between words Infeasible text f w = record { text = text; between = between; found = f; world = w }
+printed a old new between words (Accepted cost) text f w = record { text = text; between = between; found = f; world = w }
+printed a old new between words AcceptedNone text f w = record { text = text; between = between; found = f; world = w }
+printed a old new between words (Rejected rejection) text f w = record { text = text; between = between; found = f; world = w }
+printed a old new between words Listed text f w = record { text = text; between = between; found = f; world = w }
+printed a old new between words Words text f w = record { text = text; between = between; found = f; world = w }
+printed a old new between words (BadInput fault) text f w = record { text = text; between = between; found = f; world = w }
+printed a old new between words NotBuilt text f w = record { text = text; between = between; found = f; world = w }
+printed a old new between words (ReadFault file) text f w = record { text = text; between = between; found = f; world = w }
+printed a old new between words (WriteFault target) text f w = absurd f
+printed a old new between words Memory text f w = absurd f
 
-found_still : (a : Bool) (old mid new : State) (words : List Name) (answer : Answer) (text : Bytes) → NeverFall mid.faults new.faults → new.failed_last ≡ mid.failed_last
-    → IsFound a old mid words answer text → IsFound a old new words answer text
-found_still a old mid new words (Solved plan amount) text falls kept f = f
-found_still a old mid new words Infeasible text falls kept f = f
-found_still a old mid new words Listed text falls kept f = listed_still a old mid new words text f
-found_still a old mid new words Words text falls kept f = f
-found_still a old mid new words (BadInput fault) text falls kept f = needs_still a old mid new words fault text f
-found_still a old mid new words NotBuilt text falls kept f = f
-found_still a old mid new words (ReadFault file) text falls kept (inl f) = inl (solve_fault_still a old mid new words file text falls kept f)
-found_still a old mid new words (ReadFault file) text falls kept (inr f) = inr (needs_fault_still a old mid new words file text falls kept f)
-found_still a old mid new words (WriteFault target) text falls kept f = absurd f
-found_still a old mid new words Memory text falls kept f = absurd f
-
-printed : (a : Bool) (old new : State) (words : List Name) (answer : Answer) (text : Bytes) → IsFound a old new words answer text
-    → new.world ≡ print old.world text → HasCause a old new words answer
-printed a old new words (Solved plan amount) text f w = record { text = text; found = f; world = w }
-printed a old new words Infeasible text f w = record { text = text; found = f; world = w }
-printed a old new words Listed text f w = record { text = text; found = f; world = w }
-printed a old new words (BadInput fault) text f w = record { text = text; found = f; world = w }
-printed a old new words Words text f w = record { text = text; found = f; world = w }
-printed a old new words NotBuilt text f w = record { text = text; found = f; world = w }
-printed a old new words (ReadFault file) text f w = record { text = text; found = f; world = w }
-printed a old new words (WriteFault target) text f w = absurd f
-printed a old new words Memory text f w = absurd f
-
-cut_off : (a : Bool) (old mid new : State) (words : List Name) (answer : Answer) (text : Bytes) → FindsQuietly old mid words
-    → IsFound a old new words answer text → (count : ℕ) → Grows mid new text count → IsCutOff a old new words
-cut_off a old mid new words answer text q f count g = record {
-  answer = answer;
-  text = text;
-  found = f;
-  count = count;
-  within = g.within;
-  world = g.world ∙ ap (λ (w : World). print w (take count text)) q.world;
-}
+cut_off : (a : Bool) (old mid new : State) (words : List Name) (answer : Answer) (text : Bytes) → IsFound a old new mid.world words answer text → (count : ℕ) → Grows mid new text count → IsCutOff a old new words
+cut_off a old mid new words answer text f count g =
+    record { answer = answer; text = text; between = mid.world; found = f; count = count; within = g.within; world = g.world }
 
 -- the cause of an answer that was found, and then printed or not
-pub cause_of : (a : Bool) (old mid new : State) (words : List Name) (answer : Answer) (text : Bytes) (result : Answer) → FindsQuietly old mid words
-    → IsFound a old mid words answer text → PrintGives mid new answer text result → HasCause a old new words result
-cause_of a old mid new words answer text result q f p =
-    let still = found_still a old mid new words answer text p.never_fall p.kept f in
+pub cause_of : (a : Bool) (old mid new : State) (words : List Name) (found : Found) (result : Answer) → Finds a old mid words (Ok found)
+    → PrintGives mid new found.answer found.text.items result → HasCause a old new words result
+cause_of a old mid new words found result finds p =
+    let still = found_still a old mid new mid.world words found.answer found.text.items p.never_fall p.kept finds.gives in
     elim p.cases [
-      | inl whole ↦ subst (HasCause a old new words) (sym whole.0) (printed a old new words answer text still (whole.1.world ∙ ap (λ (w : World). print w text) q.world))
+      | inl whole ↦ subst (HasCause a old new words) (sym whole.0) (printed a old new mid.world words found.answer found.text.items still whole.1.world)
       | inr cut ↦ elim cut [
         | inl fault ↦ subst (HasCause a old new words) (sym fault.0) (
-          rose_between old.faults.printing mid.faults.printing new.faults.printing q.never_fall.printing fault.1,
-          cut_off a old mid new words answer text q still fault.2.0 fault.2.1,
+          rose_later old.faults.printing mid.faults.printing new.faults.printing finds.quiet.never_fall.printing fault.1,
+          cut_off a old mid new words found.answer found.text.items still fault.2.0 fault.2.1,
         )
-        | inr memory ↦ subst (HasCause a old new words) (sym memory.0) (inr (cut_off a old mid new words answer text q still memory.1.0 memory.1.1))
+        | inr memory ↦ subst (HasCause a old new words) (sym memory.0) (inr (inr (cut_off a old mid new words found.answer found.text.items still memory.1.0 memory.1.1)))
       ]
     ]
 
-pub inputs_of : (old mid new : State) (words : List Name) → FindsQuietly old mid words → new.failed_last ≡ mid.failed_last → FailsOnlyInputs old new words
-inputs_of old mid new words q kept = λ told. elim (q.named told) [
+pub cause_of_tree : (a : Bool) (old new : State) (words : List Name) → Finds a old new words (Err LostTree) → HasCause a old new words (WriteFault Tree)
+cause_of_tree a old new words finds = finds.gives
+
+pub cause_of_memory : (a : Bool) (old new : State) (words : List Name) → Finds a old new words (Err WantsMemory) → HasCause a old new words Memory
+cause_of_memory a old new words finds = elim finds.gives [ inl same ↦ inl same | inr lost ↦ inr (inl lost) ]
+
+pub inputs_of : (old mid new : State) (words : List Name) → FailsOnlyInputs old mid words → new.failed_last ≡ mid.failed_last → FailsOnlyInputs old new words
+inputs_of old mid new words q kept = λ told. elim (q told) [
   | inl same ↦ inl (kept ∙ same)
   | inr one ↦ inr (one.0, one.1, kept ∙ one.2)
 ]
 
--- the names of two readings of the words are one
-two_same : (o f p g : Name) → Some (ToSolve (two_files o f) None None) ≡ Some (ToSolve (two_files p g) None None) → (o ≡ p) × (f ≡ g)
-two_same o f p g e =
-    let same : two_files o f ≡ two_files p g = cc in
-    (ap (λ (files : FilesNamed). files.orders) same, ap (λ (files : FilesNamed). files.offers) same)
+-- saving and printing open no slot
+idle_file : (w : World) (name bytes : Bytes) → IsIdle w → IsIdle (set_file w name bytes)
+unfolding IsIdle set_file
+idle_file w name bytes idle = idle
 
-names_same : (words : List Name) (o f p g : Name) → IsSolve words o f → IsSolve words p g → (o ≡ p) × (f ≡ g)
-names_same words o f p g a b = two_same o f p g (sym a.words_are ∙ b.words_are)
+idle_saved : (w : World) (file : Option Name) (bytes : Bytes) → IsIdle w → IsIdle (saved w file bytes)
+unfolding saved
+idle_saved w None bytes idle = idle
+idle_saved w (Some name) bytes idle = idle_file w name bytes idle
 
--- two readings of one name, where the files are told, give the same bytes
-one_reading : (o : Option Bytes) (b c : Bytes) → IsSome o → IfSome o (λ file. b ≡ file) → IfSome o (λ file. c ≡ file) → b ≡ c
-one_reading None b c some p q = cc
-one_reading (Some file) b c some p q = p ∙ sym q
+idle_printed : (w : World) (text : Bytes) → IsIdle w → IsIdle (print w text)
+unfolding IsIdle print
+idle_printed w text idle = idle
 
-mapped : {A B : Type 0} (f : A → B) (o : Option A) → IsSome o → IsSome (option_map f o)
-mapped f None some = cc
-mapped f (Some x) some = refl
+idle_cut : (old new : World) (name : Name) (text : Bytes) → IsCutShort old new name text → IsIdle old → IsIdle new
+idle_cut old new name text (inl same) idle = subst IsIdle (sym same) idle
+idle_cut old new name text (inr cut) idle = subst IsIdle (sym cut.2) (idle_file old name (take cut.0 text) idle)
 
-same_bytes : (a : Bool) (w : World) (name : Name) (b c : Bytes) → IsSome w.files → ReadsAs a w name b → ReadsAs a w name c → b ≡ c
-unfolding bytes_at
-same_bytes a w name b c told p q = one_reading _ b c (mapped (λ files. unwrap_or (files name) []) w.files told) p.all q.all
+idle_found : (a : Bool) (old new : State) (between : World) (words : List Name) (answer : Answer) (text : Bytes) → IsFound a old new between words answer text → IsIdle old.world → IsIdle between
+idle_found a old new between words (Solved plan amount) text f idle = subst IsIdle (sym f.solved.saves) (idle_saved old.world f.tree f.solved.certificate idle)
+idle_found a old new between words Infeasible text f idle = subst IsIdle (sym f.solved.saves) (idle_saved old.world f.tree f.solved.certificate idle)
+idle_found a old new between words (Accepted cost) text f idle = subst IsIdle (sym f.0) idle
+idle_found a old new between words AcceptedNone text f idle = subst IsIdle (sym f.0) idle
+idle_found a old new between words (Rejected rejection) text f idle = subst IsIdle (sym f.0) idle
+idle_found a old new between words Listed text f idle = subst IsIdle (sym f.0) idle
+idle_found a old new between words Words text f idle = subst IsIdle (sym f.0) idle
+idle_found a old new between words (BadInput fault) text f idle = subst IsIdle (sym f.0) idle
+idle_found a old new between words NotBuilt text f idle = subst IsIdle (sym f.0) idle
+idle_found a old new between words (ReadFault file) text f idle = subst IsIdle (sym f.0) idle
+idle_found a old new between words (WriteFault target) text f idle = absurd f
+idle_found a old new between words Memory text f idle = absurd f
 
-some_none : {order : Order} → Some order ≡ None → ⊥
-some_none e = cc
+idle_answer : (mid new : State) (answer result : Answer) (text : Bytes) → PrintGives mid new answer text result → IsIdle mid.world → IsIdle new.world
+idle_answer mid new answer result text p idle = elim p.cases [
+  | inl whole ↦ subst IsIdle (sym whole.1.world) (idle_printed mid.world text idle)
+  | inr cut ↦ elim cut [
+    | inl fault ↦ subst IsIdle (sym fault.2.1.world) (idle_printed mid.world (take fault.2.0 text) idle)
+    | inr memory ↦ subst IsIdle (sym memory.1.1.world) (idle_printed mid.world (take memory.1.0 text) idle)
+  ]
+]
 
-some_none_offers : {offers : Offers} → Some offers ≡ None → ⊥
-some_none_offers e = cc
+pub idle_after : (a : Bool) (old mid new : State) (words : List Name) (found : Found) (result : Answer) → Finds a old mid words (Ok found)
+    → PrintGives mid new found.answer found.text.items result → IsIdle old.world → IsIdle new.world
+idle_after a old mid new words found result finds p idle =
+    idle_answer mid new found.answer result found.text.items p (idle_found a old mid mid.world words found.answer found.text.items finds.gives idle)
 
-some_none_asked : {command : Asked} → Some command ≡ None → ⊥
-some_none_asked e = cc
+pub idle_tree : (a : Bool) (old new : State) (words : List Name) → Finds a old new words (Err LostTree) → IsIdle old.world → IsIdle new.world
+idle_tree a old new words finds idle =
+    let lost = finds.gives.1.lost in
+    idle_cut old.world new.world lost.cut.0 lost.certificate lost.cut.2 idle
 
-some_orders : (p q : Order) → Some p ≡ Some q → p ≡ q
-some_orders p q e = cc
-
-no_order : (a : Bool) (w : World) (name other : Name) (order : Order) → IsSome w.files → name ≡ other → StatesOrder a w name order → StatesNoOrder a w other → ⊥
-no_order a w name other order told e s n =
-    let same = same_bytes a w name s.bytes n.bytes told s.reads (subst (λ (m : Name). ReadsAs a w m n.bytes) (sym e) n.reads) in
-    some_none (sym s.stated ∙ ap plain_order same ∙ n.unstated)
-
-no_offers : (a : Bool) (w : World) (name other : Name) (part : Bytes) (offers : Offers) → IsSome w.files → name ≡ other → StatesOffers a w name part offers → StatesNoOffers a w other part → ⊥
-no_offers a w name other part offers told e s n =
-    let same = same_bytes a w name s.bytes n.bytes told s.reads (subst (λ (m : Name). ReadsAs a w m n.bytes) (sym e) n.reads) in
-    some_none_offers (sym s.stated ∙ ap (plain_offers part) same ∙ n.unstated)
-
-same_order : (a : Bool) (w : World) (name other : Name) (p q : Order) → IsSome w.files → name ≡ other → StatesOrder a w name p → StatesOrder a w other q → p ≡ q
-same_order a w name other p q told e s t =
-    let same = same_bytes a w name s.bytes t.bytes told s.reads (subst (λ (m : Name). ReadsAs a w m t.bytes) (sym e) t.reads) in
-    some_orders p q (sym s.stated ∙ ap plain_order same ∙ t.stated)
-
-not_unbuilt : (a : Bool) (w : World) (words : List Name) → IsJobGiven a w words → IsNotBuilt a w words → ⊥
-not_unbuilt a w words j (inl other) = other.no_solve j.orders_name j.offers_name j.is_solve
-not_unbuilt a w words j (inr (inl none)) =
-    let names = names_same words j.orders_name j.offers_name none.orders_name none.offers_name j.is_solve none.is_solve in
-    no_order a w j.orders_name none.orders_name j.order j.told names.0 j.orders_stated none.not_stated
-not_unbuilt a w words j (inr (inr none)) =
-    let names = names_same words j.orders_name j.offers_name none.orders_name none.offers_name j.is_solve none.is_solve in
-    let order = same_order a w j.orders_name none.orders_name j.order none.order j.told names.0 j.orders_stated none.orders_stated in
-    no_offers a w j.offers_name none.offers_name none.order.part j.offers j.told names.1
-    (subst (λ (o : Order). StatesOffers a w j.offers_name o.part j.offers) order j.offers_stated) none.not_stated
-
-solve_is_form : (words : List Name) (o f : Name) → IsSolve words o f → IsNoForm words → ⊥
-solve_is_form words o f s none = some_none_asked (sym s.words_are ∙ none)
-
-solve_is_no_needs : (words : List Name) (o f p : Name) (b : Option Name) → IsSolve words o f → IsNeeds words p b → ⊥
-solve_is_no_needs words o f p b s n = solve_or_needs (sym s.words_are ∙ n.words_are) where
-  solve_or_needs : Some (ToSolve (two_files o f) None None) ≡ Some (ToNeed p b) → ⊥
-  solve_or_needs e = cc
-
-needs_is_form : (words : List Name) (o : Name) (b : Option Name) → IsNeeds words o b → IsNoForm words → ⊥
-needs_is_form words o b n none = some_none_asked (sym n.words_are ∙ none)
-
-rose_unread : (a : Bool) (old new : State) (orders_name : Name) (bill_name : Option Name) (file : InputFile) → IsUnreadBill a old new orders_name bill_name file → Rose old.faults.reading new.faults.reading
-rose_unread a old new orders_name bill_name file (at_orders f) = f.rose
-rose_unread a old new orders_name bill_name file (at_bill orders given f) = f.rose
-
-rose_solve_fault : (a : Bool) (old new : State) (words : List Name) (file : InputFile) (text : Bytes) → IsReadFault a old new words file text → Rose old.faults.reading new.faults.reading
-rose_solve_fault a old new words Orders text f = f.0.fails.rose
-rose_solve_fault a old new words OffersFile text f = f.0.fails.rose
-rose_solve_fault a old new words Bill text f = absurd f
-rose_solve_fault a old new words Terms text f = absurd f
-rose_solve_fault a old new words TreeFile text f = absurd f
-
--- each fault of reading was counted
-rose_fault : (a : Bool) (old new : State) (words : List Name) (file : InputFile) (text : Bytes)
-    → IsReadFault a old new words file text ⊎ IsNeedsFound a old new words (ReadFault file) text → Rose old.faults.reading new.faults.reading
-rose_fault a old new words file text (inl f) = rose_solve_fault a old new words file text f
-rose_fault a old new words file text (inr f) = rose_unread a old new f.orders_name f.bill_name file f.answers.unread
-
--- plain files without a fault bring an answer to the job, or the want of memory
-pub answers_job : (a : Bool) (old new : State) (words : List Name) (answer : Answer) → IsJobGiven a old.world words → IsFaultless old new
-    → HasCause a old new words answer → IsAnswerToJob answer
-answers_job a old new words (Solved plan amount) j f c = tt
-answers_job a old new words Infeasible j f c = tt
-answers_job a old new words Memory j f c = tt
-answers_job a old new words Listed j f c = solve_is_no_needs words j.orders_name j.offers_name c.found.orders_name c.found.bill_name j.is_solve c.found.is_needs
-answers_job a old new words Words j f c = solve_is_form words j.orders_name j.offers_name j.is_solve c.found.0
-answers_job a old new words (BadInput fault) j f c = solve_is_no_needs words j.orders_name j.offers_name c.found.orders_name c.found.bill_name j.is_solve c.found.is_needs
-answers_job a old new words NotBuilt j f c = not_unbuilt a old.world words j c.found.0
-answers_job a old new words (ReadFault file) j f c = f.reading (rose_fault a old new words file c.text c.found)
-answers_job a old new words (WriteFault Out) j f c = f.printing c.0
-answers_job a old new words (WriteFault Tree) j f c = c
-
-needs_not_unbuilt : (a : Bool) (w : World) (words : List Name) (o : Name) (b : Option Name) → IsNeeds words o b → IsNotBuilt a w words → ⊥
-needs_not_unbuilt a w words o b n (inl other) = other.no_needs o b n
-needs_not_unbuilt a w words o b n (inr (inl none)) = solve_is_no_needs words none.orders_name none.offers_name o b none.is_solve n
-needs_not_unbuilt a w words o b n (inr (inr none)) = solve_is_no_needs words none.orders_name none.offers_name o b none.is_solve n
-
--- without a fault `needs` brings one of its answers
-pub answers_needs : (a : Bool) (old new : State) (words : List Name) (o : Name) (b : Option Name) (answer : Answer) → IsNeeds words o b → IsFaultless old new
-    → HasCause a old new words answer → IsAnswerToNeeds answer
-answers_needs a old new words o b (Solved plan amount) n f c = solve_is_no_needs words c.found.orders_name c.found.offers_name o b c.found.is_solve n
-answers_needs a old new words o b Infeasible n f c = solve_is_no_needs words c.found.orders_name c.found.offers_name o b c.found.is_solve n
-answers_needs a old new words o b Memory n f c = tt
-answers_needs a old new words o b Listed n f c = tt
-answers_needs a old new words o b Words n f c = needs_is_form words o b n c.found.0
-answers_needs a old new words o b (BadInput fault) n f c = tt
-answers_needs a old new words o b NotBuilt n f c = needs_not_unbuilt a old.world words o b n c.found.0
-answers_needs a old new words o b (ReadFault file) n f c = f.reading (rose_fault a old new words file c.text c.found)
-answers_needs a old new words o b (WriteFault Out) n f c = f.printing c.0
-answers_needs a old new words o b (WriteFault Tree) n f c = c
-
--- words of no form have no other answer
-not_unbuilt_form : (a : Bool) (w : World) (words : List Name) → IsNoForm words → IsNotBuilt a w words → ⊥
-not_unbuilt_form a w words none (inl other) = some_none_asked (sym other.words_are ∙ none)
-not_unbuilt_form a w words none (inr (inl order)) = solve_is_form words order.orders_name order.offers_name order.is_solve none
-not_unbuilt_form a w words none (inr (inr offers)) = solve_is_form words offers.orders_name offers.offers_name offers.is_solve none
-
-solve_fault_form : (a : Bool) (old new : State) (words : List Name) (file : InputFile) (text : Bytes) → IsNoForm words → IsReadFault a old new words file text → ⊥
-solve_fault_form a old new words Orders text none f = solve_is_form words f.0.orders_name f.0.offers_name f.0.is_solve none
-solve_fault_form a old new words OffersFile text none f = solve_is_form words f.0.orders_name f.0.offers_name f.0.is_solve none
-solve_fault_form a old new words Bill text none f = f
-solve_fault_form a old new words Terms text none f = f
-solve_fault_form a old new words TreeFile text none f = f
-
-fault_form : (a : Bool) (old new : State) (words : List Name) (file : InputFile) (text : Bytes) → IsNoForm words
-    → IsReadFault a old new words file text ⊎ IsNeedsFound a old new words (ReadFault file) text → ⊥
-fault_form a old new words file text none (inl f) = solve_fault_form a old new words file text none f
-fault_form a old new words file text none (inr f) = needs_is_form words f.orders_name f.bill_name f.is_needs none
-
-pub answers_no_form : (a : Bool) (old new : State) (words : List Name) (answer : Answer) → IsNoForm words → HasCause a old new words answer → IsAnswerToNoForm answer
-answers_no_form a old new words (Solved plan amount) none c = solve_is_form words c.found.orders_name c.found.offers_name c.found.is_solve none
-answers_no_form a old new words Infeasible none c = solve_is_form words c.found.orders_name c.found.offers_name c.found.is_solve none
-answers_no_form a old new words Listed none c = needs_is_form words c.found.orders_name c.found.bill_name c.found.is_needs none
-answers_no_form a old new words Words none c = tt
-answers_no_form a old new words (BadInput fault) none c = needs_is_form words c.found.orders_name c.found.bill_name c.found.is_needs none
-answers_no_form a old new words NotBuilt none c = not_unbuilt_form a old.world words none c.found.0
-answers_no_form a old new words (ReadFault file) none c = fault_form a old new words file c.text none c.found
-answers_no_form a old new words (WriteFault Out) none c = tt
-answers_no_form a old new words (WriteFault Tree) none c = c
-answers_no_form a old new words Memory none c = tt
+pub idle_memory : (a : Bool) (old new : State) (words : List Name) → Finds a old new words (Err WantsMemory) → IsIdle old.world → IsIdle new.world
+idle_memory a old new words finds idle = elim finds.gives [
+  | inl same ↦ subst IsIdle (sym same) idle
+  | inr lost ↦ idle_cut old.world new.world lost.lost.cut.0 lost.lost.certificate lost.lost.cut.2 idle
+]

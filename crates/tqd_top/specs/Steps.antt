@@ -1,48 +1,64 @@
 -- What a step that reads files does to the state of a desk, by cases on its answer.
-use Rattle.std.specs.Prelude.{ℕ, ◌≡◌, ◌≤◌, Bool, Option, length, Result, Ok, Err, Vec}
+use Rattle.std.specs.Prelude.{ℕ, ◌≡◌, ◌<◌, ◌≤◌, Bool, length, IsSome, Result, Ok, Err, Vec}
 use Rattle.std.specs.Global.{Global}
 use Rattle.tqd_base.specs.declared.limits.TheConstants.{FILE_MAX}
-use Rattle.tqd_base.specs.World.{State, Name, NeverFall}
+use Rattle.tqd_base.specs.World.{State, Name, Bytes, NeverFall}
 use Rattle.tqd_base.specs.Calls.{Rests}
 use Rattle.plan_report.specs.declared.file.InputFile.{InputFile}
-use Rattle.plan_report.specs.declared.fault.FileFault.{FileFault}
 use Rattle.plan_report.specs.declared.fault.FileFault.TheVariants.{Size}
-use Rattle.bom_reader.specs.Bill.{BillData}
-use Rattle.tqd_top.specs.Reads.{ReadsAs}
-use Rattle.tqd_top.specs.FileRead.{IsLong, FailsToRead}
-use Rattle.tqd_top.specs.Listing.{StatesBill, IsFaultOfBill, IsUnreadBill}
+use Rattle.tqd_top.specs.Reads.{ReadsAs, FailsAt}
+use Rattle.tqd_top.specs.JobOf.{IsOnly, Outcome, Told, plainly}
 use Rattle.tqd_top.specs.declared.halt.Halt.{Halt}
 use Rattle.tqd_top.specs.declared.halt.Halt.TheVariants.{Bad, Unread, Memory}
-
--- reading one file
-abbrev pub InputGives : Bool → State → State → InputFile → Name → Result (Vec ℕ Global) Halt → Type 0
-InputGives absent_is_empty old new file name (Ok bytes) = Rests old new × ReadsAs absent_is_empty old.world name bytes.items × (length bytes.items ≤ FILE_MAX)
-InputGives absent_is_empty old new file name (Err (Bad fault)) = Rests old new × (fault ≡ Size file) × IsLong absent_is_empty old name
-InputGives absent_is_empty old new file name (Err (Unread other)) = (other ≡ file) × FailsToRead old new name
-InputGives absent_is_empty old new file name (Err Memory) = Rests old new
-
--- what a call answered of bytes, where this is what they state
-abbrev pub Yields : {V : Type 0} → Result V FileFault → Result V Halt → Type 0
-Yields stated (Ok value) = stated ≡ Ok value
-Yields stated (Err (Bad fault)) = stated ≡ Err fault
-Yields stated (Err (Unread file)) = ⊥
-Yields stated (Err Memory) = Unit {0}
-
--- reading one file, and what it states; `gives` says what the file gives
-abbrev pub FileGives : {V : Type 0} → (Result V FileFault → Type 0) → State → State → InputFile → Name → Result V Halt → Type 0
-FileGives gives old new file name (Ok value) = Rests old new × gives (Ok value)
-FileGives gives old new file name (Err (Bad fault)) = Rests old new × gives (Err fault)
-FileGives gives old new file name (Err (Unread other)) = (other ≡ file) × FailsToRead old new name
-FileGives gives old new file name (Err Memory) = Rests old new
 
 -- the world is as it was, and no count fell
 pub record IsStill (old new : State) : Type 0 where
   pub world : new.world ≡ old.world
   pub never_fall : NeverFall old.faults new.faults
 
--- reading orders and a bill
-abbrev pub BillFilesGive : Bool → State → State → Name → Option Name → Result BillData Halt → Type 0
-BillFilesGive absent_is_empty old new orders_name bill_name (Ok bill) = Rests old new × StatesBill absent_is_empty old.world orders_name bill_name bill
-BillFilesGive absent_is_empty old new orders_name bill_name (Err (Bad fault)) = Rests old new × IsFaultOfBill absent_is_empty old.world orders_name bill_name fault
-BillFilesGive absent_is_empty old new orders_name bill_name (Err (Unread file)) = IsStill old new × IsUnreadBill absent_is_empty old new orders_name bill_name file
-BillFilesGive absent_is_empty old new orders_name bill_name (Err Memory) = Rests old new
+-- a halt at this fault, or for want of memory
+abbrev pub HaltsAt : Told → Halt → Type 0
+HaltsAt told (Bad fault text) = told ≡ record { fault = fault; text = text.items }
+HaltsAt told (Unread file) = ⊥
+HaltsAt told Memory = Unit {0}
+
+-- what a call answered of bytes, where this is what they state
+abbrev pub Yields : {V : Type 0} → Outcome V → Result V Halt → Type 0
+Yields stated (Ok value) = stated ≡ Ok value
+Yields stated (Err (Bad fault text)) = stated ≡ Err (record { fault = fault; text = text.items })
+Yields stated (Err (Unread file)) = ⊥
+Yields stated (Err Memory) = Unit {0}
+
+-- what a call answered, where this states one outcome
+abbrev pub Answers : {V : Type 0} → (Outcome V → Type 0) → Result V Halt → Type 0
+Answers States (Ok value) = IsOnly (Unit {0}) States (Ok value)
+Answers States (Err (Bad fault text)) = IsOnly (Unit {0}) States (Err (record { fault = fault; text = text.items }))
+Answers States (Err (Unread file)) = ⊥
+Answers States (Err Memory) = Unit {0}
+
+-- reading files: the outcome that they state, which is one where the desk tells them; the file that could not be read; or the
+-- want of memory
+abbrev pub ReadGives : {V : Type 0} → (Outcome V → Type 0) → (InputFile → Type 0) → State → State → Result V Halt → Type 0
+ReadGives States Fails old new (Ok value) = Rests old new × IsOnly (IsSome old.world.files) States (Ok value)
+ReadGives States Fails old new (Err (Bad fault text)) = Rests old new × IsOnly (IsSome old.world.files) States (Err (record { fault = fault; text = text.items }))
+ReadGives States Fails old new (Err (Unread file)) = IsStill old new × Fails file
+ReadGives States Fails old new (Err Memory) = Rests old new
+
+-- the one file that was read failed
+pub record IsFileUnread (old new : State) (file : InputFile) (name : Name) (failed : InputFile) : Type 0 where
+  pub is_file : failed ≡ file
+  pub fails : FailsAt old new name
+
+-- the file has more bytes than are read
+pub record IsLong (absent_is_empty : Bool) (old : State) (name : Name) : Type 0 where
+  pub bytes : Bytes
+  pub reads : ReadsAs absent_is_empty old.world name bytes
+  pub long : FILE_MAX < length bytes
+
+-- reading the bytes of one file
+abbrev pub InputGives : Bool → State → State → InputFile → Name → Result (Vec ℕ Global) Halt → Type 0
+InputGives absent_is_empty old new file name (Ok bytes) = Rests old new × ReadsAs absent_is_empty old.world name bytes.items × (length bytes.items ≤ FILE_MAX)
+InputGives absent_is_empty old new file name (Err (Bad fault text)) = Rests old new
+    × (record { fault = fault; text = text.items } ≡ plainly (Size file)) × IsLong absent_is_empty old name
+InputGives absent_is_empty old new file name (Err (Unread failed)) = IsStill old new × IsFileUnread old new file name failed
+InputGives absent_is_empty old new file name (Err Memory) = Rests old new

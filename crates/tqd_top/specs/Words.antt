@@ -1,6 +1,6 @@
 -- The command that the words of a command line give. A word is the list of its bytes, and `-` in place of some files
 -- says that there is no such file.
-use Rattle.std.specs.Prelude.{ℕ, ◌≡◌, ◌&&◌, ◌||◌, if◌then◌else◌, List, [], ◌∷◌, Option, Some, None, option_and_then, codes}
+use Rattle.std.specs.Prelude.{ℕ, ◌≡◌, ◌⊎◌, ◌&&◌, ◌||◌, if◌then◌else◌, List, [], ◌∷◌, Option, Some, None, option_and_then, codes}
 use Rattle.std.specs.Option.{option_copied}
 use Rattle.money.specs.Number.{qty_of}
 use Rattle.tqd_base.specs.declared.limits.TheConstants.{GOODS_MAX, SUPPLIERS_MAX, WORKERS_MAX}
@@ -9,7 +9,7 @@ use Rattle.tqd_top.specs.declared.words.TheConstants.{SEED_MAX}
 use Rattle.tqd_top.specs.declared.words.JobFiles.{JobFiles}
 use Rattle.tqd_top.specs.declared.words.Command.{Command}
 use Rattle.tqd_top.specs.declared.words.Command.TheVariants.{Solve, Check, Needs, Make}
-use Rattle.tqd_top.specs.Plain.{same}
+use Rattle.tqd_top.specs.Text.{same}
 
 infixl 10 ◌>>=◌
 abbrev pub ◌>>=◌ : {A B : Type 0} → Option A → (A → Option B) → Option B
@@ -116,25 +116,51 @@ asked (Check files tree) = ToCheck (files_named files) tree.now
 asked (Needs orders bill) = ToNeed orders.now (option_copied bill)
 asked (Make seed goods suppliers) = ToMake seed goods suppliers
 
--- orders and offers, without a bill and terms
-abbrev pub two_files : Name → Name → FilesNamed
-two_files orders offers = record { orders = orders; bill = None; offers = offers; terms = None }
+-- solve ORDERS BILL OFFERS TERMS TREE
+pub record IsSolve (words : List Name) (files : FilesNamed) (tree : Option Name) : Type 0 where
+  pub words_are : command_of words ≡ Some (ToSolve files tree None)
 
--- solve ORDERS - OFFERS - -
-pub record IsSolve (words : List Name) (orders offers : Name) : Type 0 where
-  pub words_are : command_of words ≡ Some (ToSolve (two_files orders offers) None None)
+-- check ORDERS BILL OFFERS TERMS TREE
+pub record IsCheck (words : List Name) (files : FilesNamed) (tree : Name) : Type 0 where
+  pub words_are : command_of words ≡ Some (ToCheck files tree)
 
 -- needs ORDERS BILL
 pub record IsNeeds (words : List Name) (orders : Name) (bill : Option Name) : Type 0 where
   pub words_are : command_of words ≡ Some (ToNeed orders bill)
 
+-- make SEED GOODS SUPPLIERS
+pub record IsMake (words : List Name) (seed goods suppliers : ℕ) : Type 0 where
+  pub words_are : command_of words ≡ Some (ToMake seed goods suppliers)
+
+-- a command that is not built: a `solve` with `--workers N`
+abbrev pub IsUnbuilt : Asked → Type 0
+IsUnbuilt (ToSolve files tree None) = ⊥
+IsUnbuilt (ToSolve files tree (Some workers)) = Unit {0}
+IsUnbuilt (ToCheck files tree) = ⊥
+IsUnbuilt (ToNeed orders bill) = ⊥
+IsUnbuilt (ToMake seed goods suppliers) = ⊥
+
+pub record IsOtherForm (words : List Name) : Type 0 where
+  pub command : Asked
+  pub words_are : command_of words ≡ Some command
+  pub unbuilt : IsUnbuilt command
+
 -- the words are of no form
 abbrev pub IsNoForm : List Name → Type 0
 IsNoForm words = command_of words ≡ None
 
--- the words are of a form, but of neither of those
-pub record IsOtherForm (words : List Name) : Type 0 where
+-- a name of a file that states a job
+abbrev pub IsFileOf : FilesNamed → Name → Type 0
+IsFileOf files name = (name ≡ files.orders) ⊎ ((Some name ≡ files.bill) ⊎ ((name ≡ files.offers) ⊎ (Some name ≡ files.terms)))
+
+-- a name that a command reads
+abbrev pub IsReadBy : Asked → Name → Type 0
+IsReadBy (ToSolve files tree workers) name = IsFileOf files name
+IsReadBy (ToCheck files tree) name = IsFileOf files name ⊎ (name ≡ tree)
+IsReadBy (ToNeed orders bill) name = (name ≡ orders) ⊎ (Some name ≡ bill)
+IsReadBy (ToMake seed goods suppliers) name = ⊥
+
+pub record IsInput (words : List Name) (name : Name) : Type 0 where
   pub command : Asked
   pub words_are : command_of words ≡ Some command
-  pub no_solve : (orders offers : Name) → IsSolve words orders offers → ⊥
-  pub no_needs : (orders : Name) (bill : Option Name) → IsNeeds words orders bill → ⊥
+  pub is_read : IsReadBy command name

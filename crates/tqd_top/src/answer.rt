@@ -1,5 +1,7 @@
 use plan_report::{FileFault, InputFile};
+use tqd_base::Memory;
 use tqd_instance::Plan;
+use tree_checker::Rejection;
 
 /// Where a command writes: the file of the tree, or the output.
 #[derive(Clone, Copy, Debug, PartialEq, Eq)]
@@ -15,7 +17,13 @@ pub enum Answer {
     Solved(Plan, u128),
     /// There is no feasible purchase.
     Infeasible,
-    /// The needs of the goods of orders and a bill were printed.
+    /// The tree certifies that a least purchase costs this, in millionths of the currency.
+    Accepted(u128),
+    /// The tree certifies that there is no feasible purchase.
+    AcceptedNone,
+    /// The tree certifies nothing, and this is the first cause.
+    Rejected(Rejection),
+    /// The needs of the goods of orders and a bill were printed, or the summary of a made job.
     Listed,
     /// The words are of none of the forms.
     Words,
@@ -36,6 +44,24 @@ pub enum Answer {
 pub struct Ended {
     pub status: u8,
     pub answer: Answer,
+}
+
+/// Why a command has no text to print: the tree could not be written whole, or memory was wanting.
+#[derive(Clone, Copy, Debug, PartialEq, Eq)]
+pub(crate) enum Lost {
+    Tree,
+    Memory,
+}
+
+impl From<Memory> for Lost {
+    ghost use Rattle.std.specs.Prelude.{◌≡◌};
+    ghost use Rattle.tqd_top.specs.declared.answer.Lost.TheVariants.{Memory};
+
+    ghost from_gives = { λ _ e. e ≡ Memory };
+
+    fn from(_error: Memory) -> Lost {
+        Lost::Memory
+    }
 }
 
 /// An answer with the text that is to be printed.

@@ -1,18 +1,21 @@
-//! Reading the files of orders and of a bill.
+//! Reading orders and a bill, and exploding the bill.
 ghost use Rattle.std.specs.Prelude.{◌≡◌, Option, length};
 ghost use Rattle.plan_report.specs.declared.file.InputFile.TheVariants.{Orders as InOrders, Bill as InBill};
 ghost use Rattle.std.specs.Option.{option_copied};
-ghost use Rattle.tqd_top.specs.Listing.{Gives, bill_given, bill_stated, orders_given, orders_stated};
-ghost use Rattle.tqd_top.specs.Steps.{BillFilesGive, FileGives, InputGives, Yields};
+ghost use Rattle.tqd_top.specs.JobOf.{BillGives, BillOf, ExplosionGives, Gives, NeedsOf, OrdersOf, bill_stated, orders_stated, sized};
+ghost use Rattle.tqd_top.specs.Steps.{Answers, InputGives, IsFileUnread, ReadGives, Yields};
+ghost use Rattle.tqd_top.specs.Unread.{FailsAtGiven, IsUnreadBill};
 
-use crate::halt::Halt;
+use crate::halt::{Halt, bad, bad_parts};
+use crate::reading::NeedsRead;
+use bom_explode::explode;
 use bom_reader::{Bill, Orders, no_bill, read_bill, read_orders};
 use plan_report::{FileFault, InputFile};
 use std::alloc::Global;
 use tqd_base::limits::FILE_MAX;
 use tqd_base::{Desk, ReadStop, Stop, read_all};
 
-/// The bytes of an input file.
+/// The bytes of an input file, at most 16,777,216.
 pub(crate) fn read_input<D: Desk>(
     alloc: Global,
     desk: &mut D,
@@ -23,7 +26,7 @@ pub(crate) fn read_input<D: Desk>(
 {
     match read_all(alloc, desk, name, FILE_MAX) {
         Ok(bytes) => Ok(bytes),
-        Err(ReadStop::Size) => Err(Halt::Bad(FileFault::Size(file))),
+        Err(ReadStop::Size) => Err(bad(alloc, FileFault::Size(file))),
         Err(ReadStop::Fault) => Err(Halt::Unread(file)),
         Err(ReadStop::Memory) => Err(Halt::Memory),
     }
@@ -34,7 +37,7 @@ fn orders_of(alloc: Global, bytes: &[u8]) -> Result<Orders, Halt>
 {
     match read_orders(alloc, bytes) {
         Ok(orders) => Ok(orders),
-        Err(Stop::Refused(fault)) => Err(Halt::Bad(FileFault::Orders(fault))),
+        Err(Stop::Refused(fault)) => Err(bad(alloc, FileFault::Orders(fault))),
         Err(Stop::Memory) => Err(Halt::Memory),
     }
 }
@@ -44,19 +47,18 @@ fn bill_of(alloc: Global, orders: Orders, bytes: &[u8]) -> Result<Bill, Halt>
 {
     match read_bill(alloc, orders, bytes) {
         Ok(bill) => Ok(bill),
-        Err(Stop::Refused(fault)) => Err(Halt::Bad(FileFault::Bill(fault))),
+        Err(Stop::Refused(fault)) => Err(bad(alloc, FileFault::Bill(fault))),
         Err(Stop::Memory) => Err(Halt::Memory),
     }
 }
 
 /// The orders that a file states.
-fn read_orders_file<D: Desk>(alloc: Global, desk: &mut D, name: &str) -> Result<Orders, Halt>
-    ensures { FileGives (Gives D.absent_is_empty (D.state desk.old).world name.now orders_given) (D.state desk.old) (D.state desk.new) InOrders name.now result }
+fn read_orders_file<D: Desk>(alloc: Global, desk: &mut D, orders: &str) -> Result<Orders, Halt>
+    ensures { ReadGives (OrdersOf D.absent_is_empty (D.state desk.old).world orders.now) (IsFileUnread (D.state desk.old) (D.state desk.new) InOrders orders.now)
+        (D.state desk.old) (D.state desk.new) result }
 {
-    match read_input(alloc, desk, InputFile::Orders, name) {
-        Ok(bytes) => orders_of(alloc, &bytes),
-        Err(halt) => Err(halt),
-    }
+    let bytes = read_input(alloc, desk, InputFile::Orders, orders)?;
+    orders_of(alloc, &bytes)
 }
 
 /// The bill that a file states, after these orders.
@@ -64,30 +66,70 @@ fn read_bill_file<D: Desk>(
     alloc: Global,
     desk: &mut D,
     orders: Orders,
-    name: &str,
+    bill: &str,
 ) -> Result<Bill, Halt>
-    ensures { FileGives (Gives D.absent_is_empty (D.state desk.old).world name.now (bill_given orders)) (D.state desk.old) (D.state desk.new) InBill name.now result }
+    ensures { ReadGives (Gives D.absent_is_empty (D.state desk.old).world bill.now (sized InBill (bill_stated orders)))
+        (IsFileUnread (D.state desk.old) (D.state desk.new) InBill bill.now)
+        (D.state desk.old) (D.state desk.new) result }
 {
-    match read_input(alloc, desk, InputFile::Bill, name) {
-        Ok(bytes) => bill_of(alloc, orders, &bytes),
-        Err(halt) => Err(halt),
+    let bytes = read_input(alloc, desk, InputFile::Bill, bill)?;
+    bill_of(alloc, orders, &bytes)
+}
+
+/// The same where there is a file; without one, a bill that has no lines.
+fn read_given_bill<D: Desk>(
+    alloc: Global,
+    desk: &mut D,
+    orders: Orders,
+    bill: Option<&str>,
+) -> Result<Bill, Halt>
+    ensures { ReadGives (BillGives D.absent_is_empty (D.state desk.old).world (option_copied bill.entry) orders)
+        (λ file. (file ≡ InBill) × FailsAtGiven (D.state desk.old) (D.state desk.new) (option_copied bill.entry))
+        (D.state desk.old) (D.state desk.new) result }
+{
+    match bill {
+        Some(name) => read_bill_file(alloc, desk, orders, name),
+        None => Ok(no_bill(orders)),
     }
 }
 
-/// The bill that files of orders and of a bill state, or the orders alone where there is no file of a bill.
-pub(crate) fn read_bill_files<D: Desk>(
+/// The bill that files of orders and of a bill state.
+fn read_bill_files<D: Desk>(
     alloc: Global,
     desk: &mut D,
     orders: &str,
     bill: Option<&str>,
 ) -> Result<Bill, Halt>
-    ensures { BillFilesGive D.absent_is_empty (D.state desk.old) (D.state desk.new) orders.now (option_copied bill.entry) result }
+    ensures { ReadGives (BillOf D.absent_is_empty (D.state desk.old).world orders.now (option_copied bill.entry))
+        (IsUnreadBill D.absent_is_empty (D.state desk.old) (D.state desk.new) orders.now (option_copied bill.entry))
+        (D.state desk.old) (D.state desk.new) result }
 {
-    match read_orders_file(alloc, desk, orders) {
-        Ok(orders) => match bill {
-            Some(name) => read_bill_file(alloc, desk, orders, name),
-            None => Ok(no_bill(orders)),
-        },
-        Err(halt) => Err(halt),
+    let orders = read_orders_file(alloc, desk, orders)?;
+    read_given_bill(alloc, desk, orders, bill)
+}
+
+fn needs_of(alloc: Global, bill: Bill) -> Result<NeedsRead, Halt>
+    ensures { Answers (ExplosionGives bill) result }
+{
+    let names = bill.names();
+    match explode(alloc, &bill) {
+        Ok(needs) => Ok(NeedsRead { bill, needs }),
+        Err(Stop::Refused(fault)) => Err(bad_parts(alloc, FileFault::Explode(fault), names)),
+        Err(Stop::Memory) => Err(Halt::Memory),
     }
+}
+
+/// The bill that files of orders and of a bill state, and its needs.
+pub(crate) fn read_needs<D: Desk>(
+    alloc: Global,
+    desk: &mut D,
+    orders: &str,
+    bill: Option<&str>,
+) -> Result<NeedsRead, Halt>
+    ensures { ReadGives (NeedsOf D.absent_is_empty (D.state desk.old).world orders.now (option_copied bill.entry))
+        (IsUnreadBill D.absent_is_empty (D.state desk.old) (D.state desk.new) orders.now (option_copied bill.entry))
+        (D.state desk.old) (D.state desk.new) result }
+{
+    let bill = read_bill_files(alloc, desk, orders, bill)?;
+    needs_of(alloc, bill)
 }

@@ -2,18 +2,25 @@
 #![tactic(auto)]
 
 mod answer;
-mod find;
+mod check;
+#[cfg(test)]
+mod check_tests;
 mod halt;
 mod input;
+mod job;
+mod make;
+#[cfg(test)]
+mod make_tests;
 mod needs;
 #[cfg(test)]
 mod needs_tests;
-mod offers;
-mod parts;
-mod plain;
-mod read;
+mod reading;
 mod run;
+mod save;
+mod search;
 mod solve;
+#[cfg(test)]
+mod solve_tests;
 #[cfg(test)]
 mod tests;
 mod text;

@@ -1,16 +1,21 @@
-use crate::run_plain;
-use crate::tests::words_of;
+ghost use Rattle.std.specs.Prelude.{IfOk};
+ghost use Rattle.tqd_base.specs.World.{IsIdle};
+ghost use Rattle.tqd_base.specs.MemoryState.{memory_state};
+
+use crate::tests::{empty_desk, ran, set};
 use std::alloc::Global;
 use std::test::Fail;
-use tqd_base::{DeskCall, Memory, MemoryDesk};
+use tqd_base::{DeskCall, MemoryDesk};
 
 // A desk with a file of orders `o` and a file of a bill `b`, which have these lines after their headers.
-fn desk_of(alloc: Global, orders: &str, bill: &str) -> Result<MemoryDesk, Memory> {
-    let mut desk = MemoryDesk::new(alloc)?;
+fn desk_of(alloc: Global, orders: &str, bill: &str) -> Result<MemoryDesk, Fail>
+    ensures { IfOk result (λ desk. IsIdle (memory_state desk).world) }
+{
+    let mut desk = empty_desk(alloc)?;
     let orders = format!(in alloc; "product,quantity\n{orders}")?;
-    desk.set_file("o", orders.as_bytes())?;
+    set(&mut desk, "o", &orders).map_err(|_| "memory")?;
     let bill = format!(in alloc; "assembly,part,quantity\n{bill}")?;
-    desk.set_file("b", bill.as_bytes())?;
+    set(&mut desk, "b", &bill).map_err(|_| "memory")?;
     Ok(desk)
 }
 
@@ -68,10 +73,8 @@ const CASES: [(&str, &str, &str, u8, &str); 8] = [
 fn lists_the_needs(rt: HostRuntime) -> Result<(), Fail> {
     let alloc = rt.alloc();
     for (orders, bill, line, status, text) in CASES {
-        let mut desk = desk_of(alloc, orders, bill).map_err(|_| "memory")?;
-        let words = words_of(alloc, line)?;
-        let ended = run_plain(alloc, &words, &mut desk);
-        assert_eq!(rt; ended.status, status, "at {orders}");
+        let mut desk = desk_of(alloc, orders, bill)?;
+        assert_eq!(rt; ran(alloc, &mut desk, line)?, status, "at {orders}");
         assert_eq!(rt; desk.output(), text.as_bytes(), "at {orders}");
     }
     Ok(())
@@ -89,11 +92,9 @@ fn names_the_file_that_is_wanting(rt: HostRuntime) -> Result<(), Fail> {
         ("needs o b", DeskCall::Out, 1, 6, "need"),
     ];
     for (line, call, nth, status, text) in cases {
-        let mut desk = desk_of(alloc, "r,5\n", "").map_err(|_| "memory")?;
+        let mut desk = desk_of(alloc, "r,5\n", "")?;
         desk.fail(call, nth).map_err(|_| "memory")?;
-        let words = words_of(alloc, line)?;
-        let ended = run_plain(alloc, &words, &mut desk);
-        assert_eq!(rt; ended.status, status, "at {line}");
+        assert_eq!(rt; ran(alloc, &mut desk, line)?, status, "at {line}");
         assert_eq!(rt; desk.output(), text.as_bytes(), "at {line}");
     }
     Ok(())
@@ -102,11 +103,10 @@ fn names_the_file_that_is_wanting(rt: HostRuntime) -> Result<(), Fail> {
 #[test]
 fn reads_the_orders_first(rt: HostRuntime) -> Result<(), Fail> {
     let alloc = rt.alloc();
-    let words = words_of(alloc, "needs o b")?;
     // The bill is not there, and the orders have no header.
-    let mut desk = MemoryDesk::new(alloc).map_err(|_| "memory")?;
-    desk.set_file("o", b"").map_err(|_| "memory")?;
-    assert_eq!(rt; run_plain(alloc, &words, &mut desk).status, 3);
+    let mut desk = empty_desk(alloc)?;
+    set(&mut desk, "o", "").map_err(|_| "memory")?;
+    assert_eq!(rt; ran(alloc, &mut desk, "needs o b")?, 3);
     assert_eq!(rt; desk.output(), b"bad input: orders: no header\n".as_slice());
     Ok(())
 }
@@ -114,11 +114,10 @@ fn reads_the_orders_first(rt: HostRuntime) -> Result<(), Fail> {
 #[test]
 fn refuses_a_file_that_is_too_long(rt: HostRuntime) -> Result<(), Fail> {
     let alloc = rt.alloc();
-    let words = words_of(alloc, "needs o -")?;
-    let long = vec![in alloc; b'x'; 16_777_217]?;
-    let mut desk = MemoryDesk::new(alloc).map_err(|_| "memory")?;
-    desk.set_file("o", &long).map_err(|_| "memory")?;
-    assert_eq!(rt; run_plain(alloc, &words, &mut desk).status, 3);
+    let mut desk = empty_desk(alloc)?;
+    let long = "x".repeat(alloc, 16_777_217)?;
+    set(&mut desk, "o", &long).map_err(|_| "memory")?;
+    assert_eq!(rt; ran(alloc, &mut desk, "needs o -")?, 3);
     assert_eq!(rt;
         desk.output(),
         b"bad input: orders: more than 16777216 bytes\n".as_slice()
@@ -158,13 +157,11 @@ fn follows_long_chains(rt: HostRuntime) -> Result<(), Fail> {
         ),
         (26, 2, "", 0, "need\tp26\t67108864\n"),
     ];
-    let words = words_of(alloc, "needs o b")?;
     for (lines, units, last, status, text) in cases {
         let mut bill = chain(alloc, lines, units)?;
         bill.push_str(last)?;
-        let mut desk = desk_of(alloc, "p0,1\n", &bill).map_err(|_| "memory")?;
-        let ended = run_plain(alloc, &words, &mut desk);
-        assert_eq!(rt; ended.status, status, "at {lines}");
+        let mut desk = desk_of(alloc, "p0,1\n", &bill)?;
+        assert_eq!(rt; ran(alloc, &mut desk, "needs o b")?, status, "at {lines}");
         assert_eq!(rt; desk.output(), text.as_bytes(), "at {lines}");
     }
     Ok(())

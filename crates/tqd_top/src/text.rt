@@ -1,43 +1,50 @@
-ghost use Rattle.std.specs.Prelude.{◌≡◌, ◌∷◌, ◌++◌, OnOk, [], decimal, vec_len};
-ghost use Rattle.money.specs.Price.{cost_text};
+//! Answers whose text is fixed or told by a halt.
+ghost use Rattle.std.specs.Prelude.{◌≡◌, ◌∷◌, ◌++◌, IfOk, OnOk, []};
+ghost use Rattle.tqd_top.specs.Runs.{HaltFound, or_lost};
 
-use money::{write_cost, write_count};
+use crate::answer::{Answer, Found, Lost};
+use crate::halt::Halt;
+use plan_report::unread_text;
 use std::alloc::Global;
 use tqd_base::Memory;
 
-/// A text that grows by words, fields and line ends.
-pub(crate) fn add_field(text: &mut Vec<u8>, field: &[u8]) -> Result<(), Memory>
-    ensures { OnOk result (text.new.items ≡ text.old.items ++ (9 ∷ field.now)) }
+// An answer whose text is one line.
+pub(crate) fn found_line(alloc: Global, answer: Answer, line: &str) -> Result<Found, Memory>
+    ensures answer { IfOk result (λ found. found.answer ≡ answer) }
+    ensures text { IfOk result (λ found. found.text.items ≡ line.now ++ 10 ∷ []) }
 {
-    text.push(b'\t')?;
-    text.extend_from_slice(field)?;
-    Ok(())
-}
-
-pub(crate) fn add_count(alloc: Global, text: &mut Vec<u8>, n: u64) -> Result<(), Memory>
-    ensures { OnOk result (text.new.items ≡ text.old.items ++ (9 ∷ decimal n)) }
-{
-    let field = write_count(alloc, u128::from(n))?;
-    add_field(text, &field)
-}
-
-pub(crate) fn add_cost(alloc: Global, text: &mut Vec<u8>, cost: u128) -> Result<(), Memory>
-    ensures { OnOk result (text.new.items ≡ text.old.items ++ (9 ∷ cost_text cost)) }
-{
-    let field = write_cost(alloc, cost)?;
-    add_field(text, &field)
-}
-
-pub(crate) fn add_word(text: &mut Vec<u8>, word: &str) -> Result<(), Memory>
-    ensures { OnOk result (text.new.items ≡ text.old.items ++ word.now) }
-{
-    text.extend_from_slice(word.as_bytes())?;
-    Ok(())
-}
-
-pub(crate) fn end_line(text: &mut Vec<u8>) -> Result<(), Memory>
-    ensures { OnOk result (text.new.items ≡ text.old.items ++ 10 ∷ []) }
-{
+    let mut text = Vec::new(alloc);
+    text.extend_from_slice(line.as_bytes())?;
     text.push(b'\n')?;
-    Ok(())
+    Ok(Found { answer, text })
+}
+
+// The answer where the files gave no value.
+pub(crate) fn found_halt(alloc: Global, halt: Halt) -> Result<Found, Memory>
+    ensures { HaltFound halt result }
+{
+    match halt {
+        Halt::Bad(fault, text) => Ok(Found {
+            answer: Answer::BadInput(fault),
+            text,
+        }),
+        Halt::Unread(file) => {
+            let text = unread_text(alloc, file)?;
+            Ok(Found {
+                answer: Answer::ReadFault(file),
+                text,
+            })
+        }
+        Halt::Memory => Err(Memory),
+    }
+}
+
+// What a command that saves nothing found, as one that may.
+pub(crate) fn or_lost(found: Result<Found, Memory>) -> Result<Found, Lost>
+    ensures { result ≡ or_lost found }
+{
+    match found {
+        Ok(found) => Ok(found),
+        Err(_) => Err(Lost::Memory),
+    }
 }

@@ -1,10 +1,8 @@
-ghost use Rattle.std.specs.Prelude.{◌≡◌, ℕ, map, MatchOption, None, string_bytes};
+ghost use Rattle.std.specs.Prelude.{◌≡◌, map, string_bytes};
 ghost use Rattle.std.specs.Option.{option_map, option_copied};
-ghost use Rattle.tqd_base.specs.World.{Name};
-ghost use Rattle.tqd_top.specs.Plain.{same};
-ghost use Rattle.tqd_top.specs.Words.{ToSolve, asked, check_of, command_of, eight_of, file_of, files_named, files_of, four_of, make_of, needs_of, optional_of, six_of, solve_of, three_of, two_files, workers_of};
+ghost use Rattle.tqd_top.specs.Text.{same};
+ghost use Rattle.tqd_top.specs.Words.{asked, check_of, command_of, eight_of, file_of, files_named, files_of, four_of, make_of, needs_of, optional_of, six_of, solve_of, three_of, workers_of};
 
-use crate::plain::is_same;
 use money::read_qty;
 use tqd_base::limits::{GOODS_MAX, SUPPLIERS_MAX, WORKERS_MAX};
 
@@ -46,6 +44,14 @@ pub enum Command<'a> {
         goods: u64,
         suppliers: u64,
     },
+}
+
+// Whether two texts are the same.
+#[tactic(auto, unfolding(crate::specs::Text::same))]
+fn is_same(a: &[u8], b: &[u8]) -> bool
+    ensures { result ≡ same a.now b.now }
+{
+    a == b
 }
 
 // Whether a word is this text.
@@ -243,37 +249,5 @@ pub fn read_words(words: &[String]) -> Option<Command<'_>>
             of_eight(command, files, tree, option, workers)
         }
         _ => None,
-    }
-}
-
-/// The names of the files of a `solve` of orders and offers alone.
-#[derive(Clone, Copy, Debug, PartialEq, Eq)]
-pub struct SolveWords<'a> {
-    pub orders: &'a str,
-    pub offers: &'a str,
-}
-
-impl<'a> Command<'a> {
-    /// The files of a `solve` without bill, terms, tree and number of workers, or None where the command is another.
-    pub fn plain_solve(&self) -> Option<SolveWords<'a>>
-        ensures { MatchOption result
-            ((orders offers : Name) → asked self.now ≡ ToSolve (two_files orders offers) None None → ⊥)
-            (λ w. asked self.now ≡ ToSolve (two_files w.orders.now w.offers.now) None None) }
-    {
-        let Command::Solve {
-            files,
-            tree: None,
-            workers: None,
-        } = self
-        else {
-            return None;
-        };
-        match (files.bill, files.terms) {
-            (None, None) => Some(SolveWords {
-                orders: files.orders,
-                offers: files.offers,
-            }),
-            _ => None,
-        }
     }
 }

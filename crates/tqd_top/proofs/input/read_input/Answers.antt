@@ -1,7 +1,6 @@
--- A file that is longer than the limit is a fault of its size.
-use Rattle.std.proofs.Common.{refl}
-use Rattle.tqd_top.proofs.FileReads.{reads_long}
+-- A file that is longer than the limit has that fault.
+use Rattle.tqd_top.proofs.Readings.{size_halts, long_file}
 use Rattle.tqd_top.proofs.input.read_input.Goals as goal
 
 pub returns-in-Err-Size : goal.returns-in-Err-Size
-returns-in-Err-Size g c = let gives = rw c.in-Err-Size.field-0-is at c.in-Err-Size.ensures in (gives.0, refl, reads_long _ _ _ gives.1)
+returns-in-Err-Size g c = let gives = rw c.in-Err-Size.field-0-is at c.in-Err-Size.ensures in size_halts _ _ _ _ _ _ gives.0 (long_file _ _ _ gives.1) c.bad.ensures

@@ -1,0 +1,125 @@
+-- What a finished search says, and the answer that it gives.
+use Rattle.std.proofs.Common.{ℕ, ◌≡◌, ◌<◌, List, length, Option, None, Some, refl, sym, ◌∙◌, ap, subst, inl, inr}
+use Rattle.std.specs.Prelude.{Result, Ok, Err, IfOk, IfSome, MatchOption}
+use Rattle.std.specs.Option.{option_map}
+use Rattle.tqd_base.specs.declared.memory.Memory.{Memory as NoMemory}
+use Rattle.tqd_base.specs.World.{World, State, Name, Bytes}
+use Rattle.tqd_base.specs.Calls.{Rests}
+use Rattle.tqd_instance.specs.declared.job.Job.{Job}
+use Rattle.tqd_instance.specs.declared.plan.Plan.{Plan}
+use Rattle.tqd_instance.specs.Plan.{units}
+use Rattle.tqd_instance.specs.Cost.{cost}
+use Rattle.tqd_instance.specs.Least.{Least, HasNoPurchase}
+use Rattle.interval_box.specs.Ranges.{IsRoot}
+use Rattle.bound_tree.specs.declared.leaf.TreeNode.{TreeNode}
+use Rattle.bound_tree.specs.BoxTree.{IsValid}
+use Rattle.bound_tree.specs.TreeText.{tree_text}
+use Rattle.search_book.specs.declared.finish.Finished.{Finished}
+use Rattle.search_book.specs.Nodes.{area_of}
+use Rattle.search_book.specs.BookState.{BookState}
+use Rattle.search_book.specs.Events.{IsPlanAt}
+use Rattle.search_book.specs.TreeOf.{IsTreeFor}
+use Rattle.search_book.specs.Answers.{Decides}
+use Rattle.order_gen.specs.GenParts.{HasPurchase, IsGenJob}
+use Rattle.plan_report.specs.AnswerText.{summary_text}
+use Rattle.tqd_top.specs.MakeAnswer.{SumsUp}
+use Rattle.tqd_top.specs.declared.answer.Answer.{Answer}
+use Rattle.tqd_top.specs.declared.answer.Lost.{Lost}
+use Rattle.tqd_top.specs.declared.answer.Lost.TheVariants.{Tree, Memory}
+use Rattle.tqd_top.specs.declared.reading.JobRead.{JobRead}
+use Rattle.tqd_top.specs.Certificate.{Certifies, IsFinished, IsSolution, bought_by}
+use Rattle.tqd_top.specs.Saves.{IsSteady, SaveGivenGives}
+use Rattle.tqd_top.specs.SolveAnswer.{IsLost, IsSolved, SolveGives, SolvesJob, solution_answer, solution_text}
+use Rattle.tqd_top.proofs.Saved.{steady_same}
+
+-- what a settled book decides of its best plan
+solution_by : (job : Job) (best : Option (Plan × ℕ)) → MatchOption best (HasNoPurchase job) (λ b. Least job (units b.0) × (b.1 ≡ cost job (units b.0)))
+    → IfSome best (λ b. IsPlanAt job b.0 b.1) → IsSolution job best
+solution_by job None decided stands = decided
+solution_by job (Some b) decided stands = record { sized = stands.sized; least = decided.0; costs = decided.1 }
+
+costs_by : (job : Job) (best : Option (Plan × ℕ)) → MatchOption best (HasNoPurchase job) (λ b. Least job (units b.0) × (b.1 ≡ cost job (units b.0)))
+    → option_map (λ b. b.1) best ≡ option_map (cost job) (bought_by best)
+costs_by job None decided = refl
+costs_by job (Some b) decided = ap (λ (n : ℕ). Some n) decided.1
+
+finished_by : (s : BookState) (done : Finished) → Decides s → done.plan ≡ s.best → IfSome done.plan (λ b. IsPlanAt s.job b.0 b.1) → IsRoot s.job (area_of s.nodes 0) → IsTreeFor s done.tree
+    → IsFinished s.job done
+finished_by s done decides plan_is stands root tree =
+    let decided = subst (λ (best : Option (Plan × ℕ)). MatchOption best (HasNoPurchase s.job) (λ b. Least s.job (units b.0) × (b.1 ≡ cost s.job (units b.0)))) (sym plan_is) decides in
+    record {
+      solution = solution_by s.job done.plan decided stands;
+      certifies = record {
+        root = area_of s.nodes 0;
+        is_root = root;
+        tree = tree.tree;
+        valid = subst (λ (best : Option ℕ). IsValid s.job best (area_of s.nodes 0) tree.tree) (ap (option_map (λ b. b.1)) (sym plan_is) ∙ costs_by s.job done.plan decided) tree.valid;
+        nodes_are = tree.nodes_are;
+      };
+    }
+
+pub finished : (job : Job) (s : BookState) (r : Result Finished NoMemory) → s.job ≡ job → Decides s → IfOk r (λ done. done.plan ≡ s.best)
+    → IfOk r (λ done. IfSome done.plan (λ b. IsPlanAt s.job b.0 b.1)) → IsRoot s.job (area_of s.nodes 0) → IfOk r (λ done. IsTreeFor s done.tree)
+    → IfOk r (IsFinished job)
+finished job s (Ok done) job_is decides plan_is stands root tree = subst (λ (j : Job). IsFinished j done) job_is (finished_by s done decides plan_is stands root tree)
+finished job s (Err stop) job_is decides plan_is stands root tree = tt
+
+-- the answer of a solution is one to the job
+solves_plan : (read : JobRead) (plan : Option (Plan × ℕ)) (nodes : List TreeNode) → IsSolution read.job plan → Certifies read.job (bought_by plan) nodes
+    → SolvesJob read (solution_answer plan) (solution_text read plan) (tree_text read.job (bought_by plan) nodes)
+solves_plan read None nodes s c = (s, refl, record { nodes = nodes; certifies = c; text_is = refl })
+solves_plan read (Some best) nodes s c = (s, refl, record { nodes = nodes; certifies = c; text_is = refl })
+
+pub solved_saved : (read : JobRead) (old new : State) (file : Option Name) (done : Finished) (answer : Answer) (text : Bytes) (saved : Unit {0}) → IsFinished read.job done
+    → answer ≡ solution_answer done.plan → text ≡ solution_text read done.plan → SaveGivenGives old new file (tree_text read.job (bought_by done.plan) done.tree) (Ok saved)
+    → IsSteady old new × IsSolved read old.world new.world file answer text
+solved_saved read old new file done answer text saved f answer_is text_is s =
+    let certificate = tree_text read.job (bought_by done.plan) done.tree in (
+      s.0,
+      record {
+        certificate = certificate;
+        solves = subst (λ (a : Answer). SolvesJob read a text certificate) (sym answer_is)
+            (subst (λ (t : Bytes). SolvesJob read (solution_answer done.plan) t certificate) (sym text_is) (solves_plan read done.plan done.tree f.solution f.certifies));
+        saves = s.1;
+      },
+    )
+
+pub solved_lost : (read : JobRead) (old new : State) (file : Option Name) (done : Finished) (lost : Lost) → IsFinished read.job done
+    → SaveGivenGives old new file (tree_text read.job (bought_by done.plan) done.tree) (Err lost) → SolveGives read old new file (Err lost)
+solved_lost read old new file done Tree f s = (
+  s.0,
+  s.1,
+  record {
+    answer = solution_answer done.plan;
+    text = solution_text read done.plan;
+    certificate = tree_text read.job (bought_by done.plan) done.tree;
+    solves = solves_plan read done.plan done.tree f.solution f.certifies;
+    cut = s.2;
+  },
+)
+solved_lost read old new file done Memory f s = (
+  s.0,
+  inr (record {
+    answer = solution_answer done.plan;
+    text = solution_text read done.plan;
+    certificate = tree_text read.job (bought_by done.plan) done.tree;
+    solves = solves_plan read done.plan done.tree f.solution f.certifies;
+    cut = s.1;
+  }),
+)
+
+pub solves_nothing : (read : JobRead) (s : State) (file : Option Name) → SolveGives read s s file (Err Memory)
+solves_nothing read s file = (steady_same s, inl refl)
+
+-- a job with a feasible purchase has a solution with a plan
+pub has_plan : (job : Job) (plan : Option (Plan × ℕ)) → HasPurchase job → IsSolution job plan → plan ≡ None → ⊥
+has_plan job None has none same = none has.0 has.1
+has_plan job (Some best) has solution same = not_none best same where
+  not_none : (best : Plan × ℕ) → ◌≡◌ {A = Option (Plan × ℕ)} (Some best) None → ⊥
+  not_none best e = cc
+
+-- the summary of a job that was made and solved
+pub summed : (seed goods suppliers : ℕ) (job : Job) (plan : Option (Plan × ℕ)) (best : Plan × ℕ) (text : Bytes) → IsGenJob seed goods suppliers job → IsSolution job plan → plan ≡ Some best
+    → text ≡ summary_text seed goods suppliers best.1 → SumsUp seed goods suppliers text
+summed seed goods suppliers job plan best text made solution same text_is =
+    record { job = job; is_made = made; plan = best.0; amount = best.1; least = subst (IsSolution job) same solution; text_is = text_is }

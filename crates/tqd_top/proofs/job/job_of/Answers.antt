@@ -1,0 +1,29 @@
+-- Parts have one job, or one first fault.
+use Rattle.std.proofs.Common.{refl, subst}
+use Rattle.std.specs.Prelude.{Ok, Err}
+use Rattle.tqd_instance.specs.PartsData.{PartsData}
+use Rattle.tqd_instance.specs.Built.{IsJobOf, Passes, Refuses}
+use Rattle.plan_report.specs.declared.fault.FileFault.TheVariants.{Job as InJob}
+use Rattle.tqd_top.specs.JobOf.{told_by_offers}
+use Rattle.tqd_top.proofs.Readings.{answers_halt}
+use Rattle.tqd_top.proofs.OneOutcome.{one_job}
+use Rattle.tqd_top.proofs.ReadFacts.{job_fault_named}
+use Rattle.tqd_top.proofs.job.job_of.Goals as goal
+
+pub returns-in-Ok : goal.returns-in-Ok
+returns-in-Ok c = one_job c.args.read c.parts.ensures.kept.formed (Ok _) (
+  refl,
+  subst (λ (parts : PartsData). Passes parts) c.parts.ensures.value c.in-Ok.ensures.passes,
+  subst (λ (parts : PartsData). IsJobOf parts c.in-Ok.job) c.parts.ensures.value c.in-Ok.ensures.job,
+)
+
+pub bad_offers-requires : goal.bad_offers-requires
+bad_offers-requires c = job_fault_named c.args.read c.requires c.parts.ensures.kept c.in-Err-Refused.fault
+    (subst (λ (parts : PartsData). Refuses parts c.in-Err-Refused.fault) c.parts.ensures.value (rw c.in-Err-Refused.field-0-is at c.in-Err-Refused.ensures.refused))
+
+pub returns-in-Err-Refused : goal.returns-in-Err-Refused
+returns-in-Err-Refused c =
+    let fault = c.in-Err-Refused.fault in
+    let told = told_by_offers c.args.read (InJob fault) in
+    answers_halt _ told _ (one_job c.args.read c.parts.ensures.kept.formed (Err told)
+    (fault, refl, subst (λ (parts : PartsData). Refuses parts fault) c.parts.ensures.value (rw c.in-Err-Refused.field-0-is at c.in-Err-Refused.ensures.refused))) c.bad_offers.ensures

@@ -1,0 +1,79 @@
+-- The answers where no count of faults rises.
+use Rattle.std.specs.Prelude.{◌≡◌, Bool, Ok, Err}
+use Rattle.tqd_base.specs.World.{World, State, Name, Bytes, Rose}
+use Rattle.tqd_instance.specs.declared.job.Job.{Job}
+use Rattle.tree_checker.specs.declared.rejection.Verdict.TheVariants.{Optimal, NoPurchase, Rejected as ShowsNothing}
+use Rattle.tree_checker.specs.Verdict.{verdict}
+use Rattle.tree_checker.specs.CheckFrom.{IsTooLong}
+use Rattle.plan_report.specs.declared.file.InputFile.TheVariants.{Tree as TreeFile}
+use Rattle.plan_report.specs.declared.fault.FileFault.TheVariants.{Size}
+use Rattle.tqd_instance.specs.Plan.{units}
+use Rattle.tqd_instance.specs.Least.{Least, HasNoPurchase}
+use Rattle.tqd_top.specs.declared.answer.Target.TheVariants.{Tree, Out}
+use Rattle.tqd_top.specs.declared.answer.Answer.{Answer}
+use Rattle.tqd_top.specs.declared.answer.Answer.TheVariants.{Solved, Infeasible, Accepted, AcceptedNone, Rejected, Listed, Words, BadInput, NotBuilt, ReadFault, WriteFault, Memory}
+use Rattle.tqd_top.specs.declared.reading.NeedsRead.{NeedsRead}
+use Rattle.tqd_top.specs.declared.reading.JobRead.{JobRead}
+use Rattle.tqd_top.specs.Reads.{ReadsAs}
+use Rattle.tqd_top.specs.JobOf.{Outcome, Told}
+
+-- no count of faults rose
+pub record IsFaultless (old new : State) : Type 0 where
+  pub reading : Rose old.faults.reading new.faults.reading → ⊥
+  pub writing : Rose old.faults.writing new.faults.writing → ⊥
+  pub printing : Rose old.faults.printing new.faults.printing → ⊥
+
+-- the fault of the files
+abbrev pub IsAnswerToFault : Told → Answer → Type 0
+IsAnswerToFault told (BadInput fault) = told.fault ≡ fault
+IsAnswerToFault told Memory = Unit {0}
+IsAnswerToFault told _ = ⊥
+
+-- `solve`, where the files state a job or a fault: a least purchase, or that there is none, for this very job; or the fault
+abbrev pub IsAnswerToSolve : Outcome JobRead → Answer → Type 0
+IsAnswerToSolve (Err told) answer = IsAnswerToFault told answer
+IsAnswerToSolve (Ok read) (Solved plan amount) = Least read.job (units plan)
+IsAnswerToSolve (Ok read) Infeasible = HasNoPurchase read.job
+IsAnswerToSolve (Ok read) Memory = Unit {0}
+IsAnswerToSolve (Ok read) _ = ⊥
+
+-- `check`, where the files state a job and this is the text of the tree: what the text shows of the job; or that it is too long
+abbrev pub IsAnswerToText : Job → Bytes → Answer → Type 0
+IsAnswerToText job text (Accepted cost) = verdict job text ≡ Optimal cost
+IsAnswerToText job text AcceptedNone = verdict job text ≡ NoPurchase
+IsAnswerToText job text (Rejected rejection) = verdict job text ≡ ShowsNothing rejection
+IsAnswerToText job text (BadInput fault) = (fault ≡ Size TreeFile) × IsTooLong job text
+IsAnswerToText job text Memory = Unit {0}
+IsAnswerToText job text _ = ⊥
+
+-- and where they state a fault
+abbrev pub IsAnswerToCheck : Bool → World → Name → Outcome JobRead → Answer → Type 0
+IsAnswerToCheck absent_is_empty w tree (Err told) answer = IsAnswerToFault told answer
+IsAnswerToCheck absent_is_empty w tree (Ok read) answer = (text : Bytes) → ReadsAs absent_is_empty w tree text → IsAnswerToText read.job text answer
+
+-- `needs`, where the files state needs or a fault
+abbrev pub IsAnswerToNeeds : Outcome NeedsRead → Answer → Type 0
+IsAnswerToNeeds (Err told) answer = IsAnswerToFault told answer
+IsAnswerToNeeds (Ok read) Listed = Unit {0}
+IsAnswerToNeeds (Ok read) Memory = Unit {0}
+IsAnswerToNeeds (Ok read) _ = ⊥
+
+-- `make`
+abbrev pub IsAnswerToMake : Answer → Type 0
+IsAnswerToMake Listed = Unit {0}
+IsAnswerToMake Memory = Unit {0}
+IsAnswerToMake _ = ⊥
+
+-- words of a form that is not built, also where a count rises
+abbrev pub IsAnswerToOther : Answer → Type 0
+IsAnswerToOther NotBuilt = Unit {0}
+IsAnswerToOther (WriteFault Out) = Unit {0}
+IsAnswerToOther Memory = Unit {0}
+IsAnswerToOther _ = ⊥
+
+-- words of no form, also where a count rises: the fault or the want of memory comes before the text is printed
+abbrev pub IsAnswerToNoForm : Answer → Type 0
+IsAnswerToNoForm Words = Unit {0}
+IsAnswerToNoForm (WriteFault Out) = Unit {0}
+IsAnswerToNoForm Memory = Unit {0}
+IsAnswerToNoForm _ = ⊥

@@ -1,0 +1,50 @@
+//! The search for the answer to a job, and what is printed of it.
+ghost use Rattle.std.specs.Prelude.{◌≡◌, IfOk};
+ghost use Rattle.tqd_top.specs.Certificate.{IsFinished, IsSolution};
+ghost use Rattle.tqd_top.specs.ReadBook.{IsReadJob};
+ghost use Rattle.tqd_top.specs.SolveAnswer.{solution_answer, solution_text};
+
+use crate::answer::Answer;
+use crate::reading::JobRead;
+use plan_report::{infeasible_text, plan_text};
+use search_book::Finished;
+use search_run::search_one;
+use std::alloc::Global;
+use tqd_base::Memory;
+use tqd_instance::{Job, Plan};
+
+/// A least purchase of a job with its cost, or none where no purchase is feasible; and a tree that certifies it.
+pub(crate) fn search(alloc: Global, job: &Job) -> Result<Finished, Memory>
+    ensures { IfOk result (IsFinished job.now) }
+{
+    let book = search_one(alloc, job)?;
+    book.finish(alloc)
+}
+
+/// What is printed of a solution.
+pub(crate) fn solution_text(
+    alloc: Global,
+    read: &JobRead,
+    plan: &Option<(Plan, u128)>,
+) -> Result<Vec<u8>, Memory>
+    requires facts { IsReadJob read.now }
+    requires solution { IsSolution read.now.job plan.now }
+    ensures { IfOk result (λ text. text.items ≡ solution_text read.now plan.now) }
+{
+    let Some((plan, _)) = plan else {
+        return infeasible_text(alloc);
+    };
+    let names = read.bill.names();
+    let goods = read.needs.goods();
+    plan_text(alloc, &read.job, plan, names, goods, read.book.suppliers())
+}
+
+/// The answer that a solution is.
+pub(crate) fn solution_answer(plan: Option<(Plan, u128)>) -> Answer
+    ensures { result ≡ solution_answer plan }
+{
+    match plan {
+        Some((plan, cost)) => Answer::Solved(plan, cost),
+        None => Answer::Infeasible,
+    }
+}
