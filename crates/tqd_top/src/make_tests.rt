@@ -1,10 +1,16 @@
+ghost use Rattle.std.specs.Prelude.{IfOk};
+ghost use Rattle.tqd_top.specs.Certificate.{IsFinished};
+
 use crate::check::check_file;
 use crate::save::save_given;
 use crate::search::search;
 use crate::tests::{empty_desk, ran};
 use order_gen::make_job;
 use plan_report::summary_text;
+use search_book::Finished;
+use std::alloc::Global;
 use std::test::Fail;
+use tqd_instance::Job;
 use tree_checker::Verdict;
 
 #[test]
@@ -33,11 +39,21 @@ fn makes_the_same_job_again(rt: HostRuntime) -> Result<(), Fail> {
     Ok(())
 }
 
+// What a search of a job finds.
+fn found(alloc: Global, job: &Job) -> Result<Finished, Fail>
+    ensures { IfOk result (IsFinished job.now) }
+{
+    match search(alloc, job) {
+        Ok(done) => Ok(done),
+        Err(_) => Err("memory".into()),
+    }
+}
+
 #[test]
 fn saves_a_tree_that_is_accepted(rt: HostRuntime) -> Result<(), Fail> {
     let alloc = rt.alloc();
     let job = make_job(alloc, 7, 200, 4).map_err(|_| "memory")?;
-    let done = search(alloc, &job).map_err(|_| "memory")?;
+    let done = found(alloc, &job)?;
     let mut desk = empty_desk(alloc)?;
     save_given(alloc, &job, &done, &mut desk, Some("tree")).map_err(|_| "not saved")?;
     let verdict = check_file(alloc, &job, &mut desk, "tree").map_err(|_| "not read")?;
