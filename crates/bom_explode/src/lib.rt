@@ -23,8 +23,6 @@ mod needs;
 mod order;
 mod search;
 mod structure;
-#[cfg(test)]
-mod tests;
 
 pub use explosion::explode;
 pub use fault::ExplodeFault;

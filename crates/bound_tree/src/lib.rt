@@ -21,11 +21,7 @@ mod places;
 mod read_line;
 mod reader;
 mod row;
-#[cfg(test)]
-mod tests;
 mod text;
-#[cfg(test)]
-mod text_tests;
 mod tree;
 mod value;
 mod word;

@@ -18,7 +18,5 @@ pub mod laws;
 mod least;
 mod net;
 mod row;
-#[cfg(test)]
-mod tests;
 
 pub use answer::{Bounded, bound, bound_from};

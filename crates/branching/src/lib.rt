@@ -12,8 +12,6 @@
 mod choice;
 mod gap;
 pub mod laws;
-#[cfg(test)]
-mod tests;
 mod totals;
 
 pub use choice::choose;

@@ -12,8 +12,6 @@ mod fault;
 pub mod laws;
 mod reading;
 mod table;
-#[cfg(test)]
-mod tests;
 
 pub use fault::RowFault;
 pub use reading::rows;

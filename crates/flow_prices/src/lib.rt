@@ -12,8 +12,6 @@
 mod narrow;
 mod numbers;
 mod prices;
-#[cfg(test)]
-mod tests;
 
 pub use numbers::NumberList;
 pub use prices::{Priced, cheapest, cheapest_from};

@@ -11,8 +11,6 @@
 mod boxes;
 mod contents;
 pub mod laws;
-#[cfg(test)]
-mod tests;
 mod winners;
 
 pub use boxes::IntervalBox;

@@ -23,8 +23,6 @@ pub mod laws;
 mod net;
 mod pseudoflow;
 mod search;
-#[cfg(test)]
-mod tests;
 
 pub use circulation::{circulate, circulate_from};
 pub use found::{FlowList, Found, NodeSet, Solved};

@@ -13,8 +13,6 @@
 pub mod laws;
 mod number;
 mod price;
-#[cfg(test)]
-mod tests;
 
 pub use number::{read_count, read_qty, read_signed, write_count, write_signed};
 pub use price::{Price, write_cost};

@@ -19,11 +19,7 @@ mod rows;
 mod term;
 mod term_fault;
 mod term_row;
-#[cfg(test)]
-mod term_tests;
 mod terms;
-#[cfg(test)]
-mod tests;
 mod wanted;
 
 pub use book::OfferBook;

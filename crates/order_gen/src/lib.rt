@@ -11,7 +11,5 @@
 mod draws;
 mod make;
 mod offers;
-#[cfg(test)]
-mod tests;
 
 pub use make::make_job;

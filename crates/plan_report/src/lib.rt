@@ -10,17 +10,11 @@
 mod answer;
 mod causes;
 mod fault;
-#[cfg(test)]
-mod fault_tests;
 mod file;
 mod names;
 mod needs;
 mod plan;
 mod rejection;
-#[cfg(test)]
-mod rejection_tests;
-#[cfg(test)]
-mod tests;
 mod text;
 mod usage;
 

@@ -21,8 +21,6 @@ mod real_desk;
 mod real_slot;
 mod store;
 mod sure_desk;
-#[cfg(test)]
-mod tests;
 
 pub use desk::{Desk, DeskStop};
 pub use memory::{Memory, Stop};

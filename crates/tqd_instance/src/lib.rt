@@ -26,8 +26,6 @@ mod segments;
 mod seller;
 mod standing;
 mod supplier;
-#[cfg(test)]
-mod tests;
 
 pub use job::Job;
 pub use list::Numbers;

@@ -18,8 +18,6 @@ mod leaf;
 mod rejection;
 mod run;
 mod stack;
-#[cfg(test)]
-mod tests;
 
 pub use checking::{CheckStop, check, check_from};
 pub use rejection::{Feed, Rejection, Verdict, Why};

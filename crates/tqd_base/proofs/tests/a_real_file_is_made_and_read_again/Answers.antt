@@ -1,7 +1,0 @@
-use Rattle.tqd_base.specs.World.{IsIdle}
-use Rattle.tqd_base.proofs.Written.{idle_has_no_slot}
-use Rattle.tqd_base.proofs.tests.a_real_file_is_made_and_read_again.Goals as goal
-
-pub copy_out-requires : goal.copy_out-requires
-unfolding IsIdle
-copy_out-requires g c = idle_has_no_slot _ _ c.new-desk.ensures.idle

@@ -1,5 +1,0 @@
-use Rattle.tqd_base.proofs.Written.{idle_has_no_slot}
-use Rattle.tqd_base.proofs.tests.a_sure_desk_takes_all.Goals as goal
-
-pub copy_out-requires : goal.copy_out-requires
-copy_out-requires g c = idle_has_no_slot _ _ c.in_ok-desk.ensures.empty.slots
