@@ -3,6 +3,9 @@ pub mod Covers
 pub mod LaterStates
 pub mod Remains
 pub mod Dues
+pub mod Takes
 pub mod Keeps
 pub mod ManyEvents
+pub mod Decides
+pub mod OneRun
 pub mod Trees

@@ -9,3 +9,4 @@ pub mod Counts
 pub mod TreeOf
 pub mod Preorder
 pub mod Answers
+pub mod Taken

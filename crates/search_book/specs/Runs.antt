@@ -1,5 +1,5 @@
 -- What a list of events leads to, whoever made them and in whichever order.
-use Rattle.std.specs.Prelude.{ℕ, ◌≡◌, ◌&&◌, Bool, true, false, List, [], ◌∷◌, count_by}
+use Rattle.std.specs.Prelude.{ℕ, ◌≡◌, ◌&&◌, Bool, true, false, List, [], ◌∷◌, map, count_by}
 use Rattle.search_book.specs.BookState.{BookState}
 use Rattle.search_book.specs.Events.{Event, take_node, improve, close_node, split_node, give_back, release, Steps}
 
@@ -31,3 +31,12 @@ closings events = count_by (λ event. event.1 && closes event.0) events
 -- how many of the events split a node
 abbrev pub splittings : List (Event × Bool) → ℕ
 splittings events = count_by (λ event. event.1 && splits event.0) events
+
+-- a list of events, each with whether it applied, leads from a state s to t
+pub record IsRunOf (s : BookState) (events : List Event) (marks : List (Event × Bool)) (t : BookState) : Type 0 where
+  pub events_are : map (λ mark. mark.0) marks ≡ events
+  pub runs : Runs s marks t
+
+-- a list of events leads from a state s to t, whichever of them apply
+abbrev pub Leads : BookState → List Event → BookState → Type 0
+Leads s events t = (marks : List (Event × Bool)) × IsRunOf s events marks t

@@ -1,10 +1,11 @@
-ghost use Rattle.std.specs.Prelude.{◌≡◌, ◌<◌, ◌≤◌, ◌+◌, ◌*◌, ◌⊎◌, length, IfOk, IfSome, MatchOption, SomeIff, ◌↔◌};
+ghost use Rattle.std.specs.Prelude.{◌≡◌, ◌<◌, ◌≤◌, ◌+◌, ◌*◌, ◌⊎◌, length, IfOk, IfSome, IsTrue, MatchOption, SomeIff, ◌↔◌};
 ghost use Rattle.interval_box.specs.Ranges.{IsBoxOf, IsRoot};
 ghost use Rattle.interval_box.specs.Size.{size};
 ghost use Rattle.search_book.specs.Nodes.{area_of, phase_of, HasPhase};
 ghost use Rattle.search_book.specs.BookState.{best_cost, IsOpening};
 ghost use Rattle.search_book.specs.Counts.{open_count, taken_count};
-ghost use Rattle.search_book.specs.Answers.{state_of, IsSettled, IsUnsettled, VerdictSays};
+ghost use Rattle.search_book.specs.Answers.{state_of, IsSettled, IsTakenAt, IsUnsettled, VerdictSays};
+ghost use Rattle.search_book.specs.Taken.{NoneTaken};
 
 use crate::answers::{BookVerdict, State};
 use crate::node::{Node, Phase};
@@ -45,7 +46,8 @@ impl<'j> Model for Book<'j> {
 impl<'j> Book<'j> {
     /// The book in which node 0 is Open and has the root of the job, and no plan is known.
     pub fn open(alloc: Global, job: &'j Job) -> Result<Book<'j>, Memory>
-        ensures { IfOk result (IsOpening job.now) }
+        ensures opening { IfOk result (IsOpening job.now) }
+        ensures takes { IfOk result NoneTaken }
     {
         let mut nodes = Vec::new(alloc);
         nodes.push(Node {
@@ -122,6 +124,16 @@ impl<'j> Book<'j> {
         ensures of_job { IsBoxOf self.now.job result }
     {
         self.nodes[n as usize].area
+    }
+
+    /// Whether a node is Taken and has this box. False where no node has this number.
+    pub fn is_taken_at(&self, n: u64, area: &IntervalBox) -> bool
+        ensures { IsTrue result ↔ IsTakenAt self.now n area.now }
+    {
+        if self.state(n) != Some(State::Taken) {
+            return false;
+        }
+        self.area(n) == *area
     }
 
     /// What the search found out, or none exactly where a node is Open or Taken.

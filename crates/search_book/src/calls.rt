@@ -8,6 +8,7 @@ ghost use Rattle.search_book.specs.Events.{Happens, take_node, split_node, give_
 ghost use Rattle.search_book.specs.Later.{IsLater};
 ghost use Rattle.search_book.specs.Counts.{due_size};
 ghost use Rattle.search_book.specs.Answers.{TakeSays, IfGot, IsTakenAt, NoneOpen, TakesFirst, ImproveSays, CanClose, CloseSays};
+ghost use Rattle.search_book.specs.Taken.{NoneTaken, SameTaken, TakenInPlace, TakenWith, TakenWithout};
 
 use crate::answers::{Close, Improve, State, Take};
 use crate::book::{Book, state};
@@ -24,6 +25,7 @@ impl<'j> Book<'j> {
         requires { n < length self.old.nodes }
         ensures says { TakeSays self.old n self.new result }
         ensures taken { IfGot result (IsTakenAt self.new n) }
+        ensures takes { IfGot result (λ _. TakenWith self.old n self.new) }
         ensures of_job { IsBoxOf self.old.job (area_of self.old.nodes n) }
         ensures later { IsLater self.old self.new }
         ensures due { due_size self.new ≡ due_size self.old }
@@ -41,6 +43,7 @@ impl<'j> Book<'j> {
             (NoneOpen self.old × (self.new ≡ self.old))
             (λ got. TakesFirst self.old got.0 got.1 self.new) }
         ensures taken { IfSome result (λ got. IsTakenAt self.new got.0 got.1) }
+        ensures takes { IfSome result (λ got. TakenWith self.old got.0 self.new) }
         ensures of_job { IfSome result (λ got. IsBoxOf self.old.job got.1) }
         ensures later { IsLater self.old self.new }
         ensures due { due_size self.new ≡ due_size self.old }
@@ -59,6 +62,7 @@ impl<'j> Book<'j> {
         ensures happens { Happens self.old (take_node n) self.new }
         ensures area { result ≡ area_of self.old.nodes n }
         ensures taken { IsTakenAt self.new n result }
+        ensures takes { TakenWith self.old n self.new }
         ensures of_job { IsBoxOf self.old.job result }
         ensures later { IsLater self.old self.new }
         ensures due { due_size self.new ≡ due_size self.old }
@@ -75,6 +79,8 @@ impl<'j> Book<'j> {
         requires sized { IsSizedFor self.old.job plan }
         requires costs { Costs self.old.job (units plan) cost }
         ensures says { ImproveSays self.old plan cost self.new result }
+        ensures nodes { self.new.nodes ≡ self.old.nodes }
+        ensures takes { SameTaken self.old self.new }
         ensures later { IsLater self.old self.new }
         ensures due { due_size self.new ≡ due_size self.old }
     {
@@ -93,6 +99,7 @@ impl<'j> Book<'j> {
         requires taken { HasPhase self.old.nodes n Phase.Taken }
         requires leaf { CanClose self.old.job (area_of self.old.nodes n) leaf }
         ensures says { CloseSays self.old n leaf self.new result }
+        ensures takes { (result ≡ Close.Closed) → TakenWithout self.old n self.new }
         ensures later { IsLater self.old self.new }
         ensures due { (result ≡ Close.Closed) → due_size self.new < due_size self.old }
     {
@@ -124,6 +131,8 @@ impl<'j> Book<'j> {
             HasPhase self.new.nodes (if keep_low then halves.0 else halves.1) Phase.Taken) }
         ensures other { IfOk result (λ halves.
             HasPhase self.new.nodes (if keep_low then halves.1 else halves.0) Phase.Open) }
+        ensures takes { IfOk result (λ halves.
+            TakenInPlace self.old n (if keep_low then halves.0 else halves.1) self.new) }
 
         ensures later { IsLater self.old self.new }
         ensures due { OnOk result (due_size self.new + 1 ≡ due_size self.old) }
@@ -148,6 +157,7 @@ impl<'j> Book<'j> {
     pub fn give_back(&mut self, n: u64)
         requires { HasPhase self.old.nodes n Phase.Taken }
         ensures happens { Happens self.old (give_back n) self.new }
+        ensures takes { TakenWithout self.old n self.new }
         ensures later { IsLater self.old self.new }
         ensures due { due_size self.new ≡ due_size self.old }
     {
@@ -160,6 +170,7 @@ impl<'j> Book<'j> {
     /// Makes each Taken node Open again.
     pub fn release_all(&mut self)
         ensures happens { Happens self.old release self.new }
+        ensures takes { NoneTaken self.new }
         ensures later { IsLater self.old self.new }
         ensures due { due_size self.new ≡ due_size self.old }
     {

@@ -8,9 +8,10 @@ ghost use Rattle.search_book.specs.BookState.{BookState, IsOpening};
 ghost use Rattle.search_book.specs.Events.{Event, Happens, Steps};
 ghost use Rattle.search_book.specs.Later.{IsLater};
 ghost use Rattle.search_book.specs.Covered.{IsCovered, AllRemain};
-ghost use Rattle.search_book.specs.Runs.{Runs, closings, splittings};
+ghost use Rattle.search_book.specs.Runs.{IsRunOf, Leads, Runs, closings, splittings};
 ghost use Rattle.search_book.specs.Counts.{closed_count, split_count, due_size, DueAfter};
-ghost use Rattle.search_book.specs.Answers.{IsSettled, Decides};
+ghost use Rattle.search_book.specs.Answers.{IsSettled, NoneOpen, Decides};
+ghost use Rattle.search_book.specs.Taken.{NoneTaken, TakenAfter};
 
 /// Every state is later than itself.
 pub fn later_is_reflexive()
@@ -58,6 +59,30 @@ pub fn nodes_are_settled_once()
         → IsOpening job s → Runs s events t → splittings events ≡ split_count t }
 {}
 
+/// From each state each list of events has one run: it is settled of each event whether it applies when it comes, so there
+/// is one list of marks, and one state that the list leads to.
+pub fn every_list_of_events_has_one_run()
+    ensures some { (s : BookState) (events : List Event)
+        → (marks : List (Event × Bool)) × (t : BookState) × IsRunOf s events marks t }
+    ensures one { (s t u : BookState) (events : List Event) (a b : List (Event × Bool))
+        → IsRunOf s events a t → IsRunOf s events b u → (a ≡ b) × (t ≡ u) }
+{}
+
+/// Whichever events come to the opening state, from whichever workers, in whichever order, and whether they apply or not:
+/// they lead to one state, which is covered and has at most 2 * P - 1 nodes, where P is the size of the root. From every
+/// state they lead to one that is later.
+pub fn every_list_of_events_keeps_the_cover()
+    ensures leads { (s : BookState) (events : List Event) → (t : BookState) × Leads s events t }
+    ensures to_one { (s t u : BookState) (events : List Event) → Leads s events t → Leads s events u → t ≡ u }
+    ensures covered { (job : Job) (s t : BookState) (events : List Event)
+        → IsOpening job s → Leads s events t → IsCovered t }
+    ensures remain { (job : Job) (s t : BookState) (events : List Event)
+        → IsOpening job s → Leads s events t → AllRemain t }
+    ensures later { (s t : BookState) (events : List Event) → Leads s events t → IsLater s t }
+    ensures bounded { (job : Job) (root : IntervalBox) (s t : BookState) (events : List Event)
+        → IsRoot job root → IsOpening job s → Leads s events t → length t.nodes + 1 ≤ 2 * size job root }
+{}
+
 /// Whatever events come to the opening state, there are at most 2 * P - 1 nodes, where P is the size of the root.
 pub fn nodes_are_bounded()
     ensures { (job : Job) (root : IntervalBox) (s t : BookState) (events : List (Event × Bool))
@@ -69,6 +94,17 @@ pub fn nodes_are_bounded()
 pub fn due_size_falls()
     ensures { (s t : BookState) (event : Event)
         → IsCovered s → Happens s event t → DueAfter event (due_size s) (due_size t) }
+{}
+
+/// An event that applies takes a node, leaves one, puts a half in the place of one, or leaves none Taken; all others are
+/// Taken as they were.
+pub fn events_take_nodes()
+    ensures { (s t : BookState) (event : Event) → Happens s event t → TakenAfter event s t }
+{}
+
+/// A state in which no node is Open and none is Taken is settled.
+pub fn states_settle_where_none_waits()
+    ensures { (s : BookState) → NoneOpen s → NoneTaken s → IsSettled s }
 {}
 
 /// A covered state without a node that is Open or Taken decides: its best plan is a least purchase, and where there is

@@ -61,7 +61,7 @@ fn plan_of(rt: &impl Abort, alloc: Global, job: &Job, units: u64) -> Result<Plan
     Ok(plan)
 }
 
-/// Offers the plan of 100 units.
+/// Offers the plan of 100 units, which costs 8.00.
 fn improved(rt: &impl Abort, alloc: Global, book: &mut Book) -> Result<Improve, Memory> {
     let job = book.job();
     let plan = plan_of(rt, alloc, job, 100)?;
@@ -79,92 +79,161 @@ fn closed(rt: &impl Abort, alloc: Global, book: &mut Book, price: i64) -> Result
     Ok(book.close(0, Leaf::Bound(row)))
 }
 
+/// Splits the first node, which is Taken, at segment 0 of its only supplier.
+fn split(rt: &impl Abort, book: &mut Book, keep_low: bool) -> Result<(u64, u64), Memory> {
+    assert!(rt; book.state(0) == Some(State::Taken));
+    let root = book.area(0);
+    assert!(rt; root.low_of(0) == 0);
+    assert!(rt; 0 < root.high_of(0));
+    book.split(0, 0, 0, keep_low)
+}
+
+fn taken(rt: &impl Abort, book: &mut Book, n: u64) -> Option<State> {
+    assert!(rt; n < book.nodes());
+    match book.take(n) {
+        Take::Got(_) => None,
+        Take::NotOpen(state) => Some(state),
+    }
+}
+
+fn given_back(rt: &impl Abort, book: &mut Book, n: u64) {
+    assert!(rt; book.state(n) == Some(State::Taken));
+    book.give_back(n);
+}
+
+/// A call of a book and what it has to answer.
+#[derive(Clone, Copy)]
+enum Call {
+    /// The number of the node that is taken.
+    TakeFirst(Option<u64>),
+    /// A node, and the state for which it is not taken.
+    Take(u64, Option<State>),
+    Improve(Improve),
+    /// The price of the good in the row of a bound for the first node.
+    Close(i64, Close),
+    /// Whether the low half of the first node is kept.
+    Split(bool),
+    GiveBack(u64),
+    Release,
+}
+
+/// Makes a call. Whether it answers what it has to.
+fn answers(rt: &impl Abort, alloc: Global, book: &mut Book, call: Call) -> Result<bool, Memory> {
+    match call {
+        Call::TakeFirst(want) => Ok(book.take_first().map(|got| got.0) == want),
+        Call::Take(n, want) => Ok(taken(rt, book, n) == want),
+        Call::Improve(want) => Ok(improved(rt, alloc, book)? == want),
+        Call::Close(price, want) => Ok(closed(rt, alloc, book, price)? == want),
+        Call::Split(keep_low) => Ok(split(rt, book, keep_low)? == (1, 2)),
+        Call::GiveBack(n) => {
+            given_back(rt, book, n);
+            Ok(true)
+        }
+        Call::Release => {
+            book.release_all();
+            Ok(true)
+        }
+    }
+}
+
+/// How many nodes are Open and Taken, how many there are, and the verdict.
+type Counts = (u64, u64, u64, Option<BookVerdict>);
+
+fn counts(book: &Book) -> Counts {
+    (
+        book.open_count(),
+        book.taken_count(),
+        book.nodes(),
+        book.verdict(),
+    )
+}
+
+/// Makes calls of a new book of the job, each with the counts that it has to lead to.
+fn walk<'j>(
+    rt: &impl Abort,
+    alloc: Global,
+    job: &'j Job,
+    calls: &[(Call, Counts)],
+) -> Result<Book<'j>, Memory> {
+    let mut book = Book::open(alloc, job)?;
+    for &(call, want) in calls {
+        let answered = answers(rt, alloc, &mut book, call)?;
+        assert!(rt; answered);
+        assert!(rt; counts(&book) == want);
+    }
+    Ok(book)
+}
+
 fn is_sent<T: Send>(_value: &T) {}
 
 #[test]
 fn a_node_is_taken_once(rt: HostRuntime) -> Result<(), Fail> {
     let job = steps(&rt, rt.alloc())?;
-    let mut book = Book::open(rt.alloc(), &job)?;
+    let calls = [
+        (Call::TakeFirst(Some(0)), (0, 1, 1, None)),
+        (Call::TakeFirst(None), (0, 1, 1, None)),
+        (Call::Take(0, Some(State::Taken)), (0, 1, 1, None)),
+        (Call::GiveBack(0), (1, 0, 1, None)),
+        (Call::Take(0, None), (0, 1, 1, None)),
+    ];
+    let book = walk(&rt, rt.alloc(), &job, calls.as_slice())?;
     is_sent(&book);
-    assert_eq!(rt; book.take_first(), Some((0, IntervalBox::root(&job))));
-    assert_eq!(rt; book.take_first(), None);
-    assert_eq!(rt; book.take(0), Take::NotOpen(State::Taken));
-    assert_eq!(rt;
-        (book.open_count(), book.taken_count(), book.nodes()),
-        (0, 1, 1)
-    );
-    assert_eq!(rt; book.state(1), None);
-    Ok(())
-}
-
-#[test]
-fn a_bound_closes_where_it_reaches_the_best_cost(rt: HostRuntime) -> Result<(), Fail> {
-    let alloc = rt.alloc();
-    let job = steps(&rt, alloc)?;
-    let mut book = Book::open(alloc, &job)?;
-    assert_eq!(rt; book.take(0), Take::Got(IntervalBox::root(&job)));
-    assert_eq!(rt; closed(&rt, alloc, &mut book, 80_000)?, Close::Short(None));
-    assert_eq!(rt; improved(&rt, alloc, &mut book)?, Improve::Better);
-    assert_eq!(rt; improved(&rt, alloc, &mut book)?, Improve::Kept(8_000_000));
-    assert_eq!(rt;
-        closed(&rt, alloc, &mut book, 79_999)?,
-        Close::Short(Some(8_000_000))
-    );
-    assert_eq!(rt; book.verdict(), None);
-    assert_eq!(rt; closed(&rt, alloc, &mut book, 80_000)?, Close::Closed);
-    assert_eq!(rt; book.verdict(), Some(BookVerdict::Least(8_000_000)));
-    Ok(())
-}
-
-/// A book that one bound decided.
-fn decided<'j>(rt: &impl Abort, alloc: Global, job: &'j Job) -> Result<Book<'j>, Memory> {
-    let mut book = Book::open(alloc, job)?;
-    let _first = book.take_first();
-    let _better = improved(rt, alloc, &mut book)?;
-    let _closed = closed(rt, alloc, &mut book, 80_000)?;
-    Ok(book)
-}
-
-#[test]
-fn a_decided_book_hands_out_its_plan_and_tree(rt: HostRuntime) -> Result<(), Fail> {
-    let alloc = rt.alloc();
-    let job = steps(&rt, alloc)?;
-    let book = decided(&rt, alloc, &job)?;
-    assert!(rt; book.verdict().is_some());
-    let done = book.finish(alloc)?;
-    assert!(rt; done.plan.is_some_and(|(_, cost)| cost == 8_000_000));
-    assert_eq!(rt; done.tree.len(), 1);
-    assert!(rt; matches!(done.tree.node(0), TreeNode::Leaf(Leaf::Bound(_))));
+    assert!(rt; book.state(1).is_none());
     Ok(())
 }
 
 #[test]
 fn a_split_keeps_one_half_and_opens_the_other(rt: HostRuntime) -> Result<(), Fail> {
     let job = steps(&rt, rt.alloc())?;
-    let mut book = Book::open(rt.alloc(), &job)?;
-    let _first = book.take_first();
-    assert!(rt; book.state(0) == Some(State::Taken));
-    let root = book.area(0);
+    let calls = [
+        (Call::TakeFirst(Some(0)), (0, 1, 1, None)),
+        (Call::Split(true), (1, 1, 3, None)),
+        (Call::Take(0, Some(State::Split(1, 2))), (1, 1, 3, None)),
+        (Call::GiveBack(1), (2, 0, 3, None)),
+        (Call::TakeFirst(Some(1)), (1, 1, 3, None)),
+        (Call::Take(2, None), (0, 2, 3, None)),
+        (Call::Release, (2, 0, 3, None)),
+        (Call::TakeFirst(Some(1)), (1, 1, 3, None)),
+    ];
+    let book = walk(&rt, rt.alloc(), &job, calls.as_slice())?;
+    let areas = boxes(&rt, &job);
+    for n in 0..4 {
+        for at in 0..3 {
+            assert!(rt; book.is_taken_at(n, &areas[at]) == (n == 1 && at == 1));
+        }
+    }
+    Ok(())
+}
+
+/// The root of the job of one supplier, and its halves at segment 0.
+fn boxes(rt: &impl Abort, job: &Job) -> [IntervalBox; 3] {
+    let root = IntervalBox::root(job);
     assert!(rt; root.low_of(0) == 0);
     assert!(rt; 0 < root.high_of(0));
-    let (low, high) = book.split(0, 0, 0, true)?;
-    assert_eq!(rt; (low, high), (1, 2));
-    assert_eq!(rt; book.state(0), Some(State::Split(1, 2)));
-    assert_eq!(rt;
-        (book.state(1), book.state(2)),
-        (Some(State::Taken), Some(State::Open))
-    );
-    assert_eq!(rt;
-        (book.area(low).high_of(0), book.area(high).low_of(0)),
-        (0, 1)
-    );
-    book.give_back(low);
-    assert_eq!(rt; book.take_first().map(|got| got.0), Some(1));
-    book.release_all();
-    assert_eq!(rt;
-        (book.open_count(), book.taken_count(), book.nodes()),
-        (2, 0, 3)
-    );
+    let (low, high) = root.halves(0, 0);
+    [root, low, high]
+}
+
+#[test]
+fn a_bound_closes_where_it_reaches_the_best_cost(rt: HostRuntime) -> Result<(), Fail> {
+    let alloc = rt.alloc();
+    let job = steps(&rt, alloc)?;
+    let best = Some(8_000_000);
+    let least = Some(BookVerdict::Least(8_000_000));
+    let calls = [
+        (Call::Take(0, None), (0, 1, 1, None)),
+        (Call::Close(80_000, Close::Short(None)), (0, 1, 1, None)),
+        (Call::Improve(Improve::Better), (0, 1, 1, None)),
+        (Call::Improve(Improve::Kept(8_000_000)), (0, 1, 1, None)),
+        (Call::Close(79_999, Close::Short(best)), (0, 1, 1, None)),
+        (Call::Close(80_000, Close::Closed), (0, 0, 1, least)),
+    ];
+    let book = walk(&rt, alloc, &job, calls.as_slice())?;
+    assert!(rt; book.verdict().is_some());
+    let done = book.finish(alloc)?;
+    assert!(rt; done.plan.is_some_and(|(_, cost)| cost == 8_000_000));
+    assert!(rt; done.tree.len() == 1);
+    assert!(rt; matches!(done.tree.node(0), TreeNode::Leaf(Leaf::Bound(_))));
     Ok(())
 }
 
@@ -178,6 +247,10 @@ fn laws_of_the_book_are_promised() {
     laws::every_run_is_covered();
     laws::nodes_are_settled_once();
     laws::nodes_are_bounded();
+    laws::every_list_of_events_has_one_run();
+    laws::every_list_of_events_keeps_the_cover();
     laws::due_size_falls();
+    laws::events_take_nodes();
+    laws::states_settle_where_none_waits();
     laws::settled_states_decide();
 }

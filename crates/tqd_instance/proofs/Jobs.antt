@@ -29,7 +29,7 @@ segment_in_range job i j h some within =
     let s = segment_is job i j h some within in
     record { from_one = s.from_one; ordered = s.ordered; within = s.within; prices = s.prices }
 
-nothing_is : (job : Job) (i : ℕ) → i < suppliers job → IsNothing (goods job) (segment_at job i 0)
+pub nothing_is : (job : Job) (i : ℕ) → i < suppliers job → IsNothing (goods job) (segment_at job i 0)
 unfolding segment_at
 nothing_is job i h = (supplier_is job i h).first
 

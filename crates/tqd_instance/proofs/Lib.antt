@@ -11,5 +11,6 @@ pub mod Rising
 pub mod SupplierFacts
 pub mod JobBuilds
 pub mod JobSame
+pub mod SameNumbers
 pub mod Froms
 pub mod FromsExist

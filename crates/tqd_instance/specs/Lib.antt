@@ -3,6 +3,7 @@ pub mod JobFacts
 pub mod Job
 pub mod InRange
 pub mod Picks
+pub mod Same
 pub mod PlanFacts
 pub mod Plan
 pub mod Purchase

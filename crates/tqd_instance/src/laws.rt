@@ -1,11 +1,12 @@
 //! What follows from the definitions alone: functions without a body that computes, whose contracts are the laws.
-ghost use Rattle.std.specs.Prelude.{List, ℕ, ◌<◌, ◌≡◌};
+ghost use Rattle.std.specs.Prelude.{List, ℕ, ◌<◌, ◌≡◌, ◌↔◌};
 ghost use Rattle.tqd_instance.specs.Job.{suppliers};
 ghost use Rattle.tqd_instance.specs.InRange.{IsInRange};
 ghost use Rattle.tqd_instance.specs.Parts.{AreFroms, IsWellFormed};
 ghost use Rattle.tqd_instance.specs.Built.{IsJobOf};
 ghost use Rattle.tqd_instance.specs.declared.job.Job.{Job};
 ghost use Rattle.tqd_instance.specs.Picks.{PicksWhereItLies};
+ghost use Rattle.tqd_instance.specs.Same.{HasSameNumbers};
 
 use crate::job::Job;
 use crate::parts::JobParts;
@@ -33,4 +34,9 @@ pub fn intervals_of_a_supplier_begin_somewhere(_parts: &JobParts)
 /// Well-formed parts describe at most one job.
 pub fn parts_describe_one_job(_parts: &JobParts)
     ensures { IsWellFormed _parts.now → (a b : Job) → IsJobOf _parts.now a → IsJobOf _parts.now b → a ≡ b }
+{}
+
+/// Two jobs are equal exactly where all their numbers are: so `Job::same` compares these.
+pub fn equal_numbers_make_jobs_equal()
+    ensures { (a b : Job) → (a ≡ b) ↔ HasSameNumbers a b }
 {}

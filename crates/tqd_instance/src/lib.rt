@@ -8,8 +8,8 @@
 //! refusal exactly where its test is the first. `JobParts::is_well_formed` tests parts of which that is not known.
 //! `Job::standing` says whether a plan is feasible and what it costs, or which test of feasibility it fails first;
 //! `Job::pick` gives the segment that a total selects. `Job::same` says whether two jobs have the same numbers.
-//! `laws` has what follows from the definitions alone: the ranges of a job's numbers, what a pick is, and that
-//! well-formed parts describe one job.
+//! `laws` has what follows from the definitions alone: the ranges of a job's numbers, what a pick is, that well-formed
+//! parts describe one job, and that two jobs with the same numbers are one.
 #![tactic(auto)]
 
 mod build;

@@ -13,6 +13,7 @@ use Rattle.search_book.proofs.Marks.{read_is}
 use Rattle.search_book.proofs.Keeps.{vec_marked, kept_closed}
 use Rattle.search_book.proofs.LaterStates.{happens_later}
 use Rattle.search_book.proofs.Dues.{due_falls}
+use Rattle.search_book.proofs.Takes.{book_takes}
 use Rattle.search_book.proofs.book.Book.close.Goals as goal
 
 -- the book as it was, and as it is once the node is closed
@@ -56,3 +57,7 @@ returns-clause-due c = λ closed.
     subst (λ (xs : List Node). due_size (record (was c) { nodes = xs }) < due_size c.args.self.now) (sym (nodes_are c))
     (subst (λ (x : BookState). due_size (is_now c) < due_size x) c.self.view_is
     (due_falls (was c) (is_now c) (close_node c.args.n c.args.leaf) c.self.invariant.covered (applies c)))
+
+pub returns-clause-takes : goal.returns-clause-takes
+returns-clause-takes c = λ closed.
+    book_takes (was c) c.args.self.now _ _ (close_node c.args.n c.args.leaf) (applies c) c.self.view_is (nodes_are c)

@@ -1,16 +1,19 @@
-use Rattle.std.proofs.Common.{List, sym, subst, ap, ◌∙◌, ◌+◌, ◌≡◌, ◌<◌, not, length, arith}
+use Rattle.std.proofs.Common.{List, sym, subst, ap, refl, ◌∙◌, ◌+◌, ◌≡◌, ◌<◌, not, length, arith}
+use Rattle.std.specs.Prelude.{if◌then◌else◌}
 use Rattle.interval_box.specs.declared.boxes.IntervalBox.{IntervalBox}
 use Rattle.interval_box.specs.Halves.{IsProper, low_half, high_half}
 use Rattle.search_book.specs.declared.node.Node.{Node}
 use Rattle.search_book.specs.declared.node.Phase.TheVariants.{Taken, Split}
 use Rattle.search_book.specs.Nodes.{area_of, HasPhase}
 use Rattle.search_book.specs.BookState.{BookState}
-use Rattle.search_book.specs.Events.{half_node, divided}
+use Rattle.search_book.specs.Events.{half_node, divided, split_node}
 use Rattle.search_book.specs.Counts.{due_size}
 use Rattle.search_book.specs.Kept.{IsKept}
+use Rattle.search_book.specs.Taken.{TakenInPlace}
 use Rattle.search_book.proofs.Marks.{read_is}
 use Rattle.search_book.proofs.Keeps.{vec_divided, kept_divided, split_place}
 use Rattle.search_book.proofs.Dues.{due_divided}
+use Rattle.search_book.proofs.Takes.{book_takes}
 use Rattle.search_book.proofs.book.Book.split.Goals as goal
 
 pub halves-requires-clause-supplier : goal.halves-requires-clause-supplier
@@ -86,3 +89,10 @@ pub returns-clause-due : goal.returns-clause-due
 returns-clause-due c =
     ap (λ (xs : List Node). due_size (record (was c) { nodes = xs }) + 1) (nodes_are c)
     ∙ (due_divided (was c) c.args.n c.args.i c.args.s c.args.keep_low c.self.invariant.covered (taken c) (proper c) ∙ ap due_size c.self.view_is)
+
+pub returns-clause-takes : goal.returns-clause-takes
+returns-clause-takes c =
+    let t : BookState = record (was c) { nodes = c.push_reserved-2.new.self.items } in
+    let takes = book_takes (was c) c.args.self.now _ _ (split_node c.args.n c.args.i c.args.s c.args.keep_low) (taken c, proper c, refl) c.self.view_is (nodes_are c) in
+    let number = number_is c ∙ ap (λ (x : BookState). length x.nodes) c.self.view_is in
+    subst (λ m. TakenInPlace c.args.self.now c.args.n (if c.args.keep_low then m else m + 1) t) (sym number) takes

@@ -8,6 +8,7 @@ use Rattle.search_book.specs.Counts.{due_size}
 use Rattle.search_book.specs.Kept.{IsKept}
 use Rattle.search_book.proofs.Keeps.{vec_marked, kept_taken}
 use Rattle.search_book.proofs.Dues.{due_falls}
+use Rattle.search_book.proofs.Takes.{book_takes}
 use Rattle.search_book.proofs.book.Book.take_open.Goals as goal
 
 -- the book as it was, and as it is now
@@ -34,3 +35,6 @@ pub returns-clause-due : goal.returns-clause-due
 returns-clause-due c =
     ap (λ (xs : List Node). due_size (record (was c) { nodes = xs })) (nodes_are c)
     ∙ (due_falls (was c) (marked (was c) c.args.n Taken) (take_node c.args.n) c.self.invariant.covered (applies c) ∙ ap due_size c.self.view_is)
+
+pub returns-clause-takes : goal.returns-clause-takes
+returns-clause-takes c = book_takes (was c) c.args.self.now _ _ (take_node c.args.n) (applies c) c.self.view_is (nodes_are c)
