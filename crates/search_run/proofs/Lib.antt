@@ -1,3 +1,3 @@
-pub mod Alone
-pub mod Kept
 pub mod Flows
+pub mod Halves
+pub mod Openings

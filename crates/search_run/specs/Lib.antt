@@ -1,1 +1,4 @@
+pub mod Opened
+pub mod Thinking
+pub mod Steps
 pub mod Working

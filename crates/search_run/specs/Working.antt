@@ -1,55 +1,27 @@
--- The states of a book between the steps of a search on one thread.
-use Rattle.std.specs.Prelude.{ℕ, ◌≡◌, ◌≢◌, ◌<◌, pos, ◌≤ℤ◌, ◌<ℤ◌, Option, Some, None, IfSome, IsSomeAnd, Bool, true, false}
+-- What a worker goes on with.
+use Rattle.std.specs.Prelude.{IfSome}
 use Rattle.tqd_instance.specs.declared.job.Job.{Job}
-use Rattle.tqd_instance.specs.declared.plan.Plan.{Plan}
-use Rattle.interval_box.specs.declared.boxes.IntervalBox.{IntervalBox}
-use Rattle.interval_box.specs.Halves.{low_half, high_half}
-use Rattle.bound_tree.specs.Prices.{Prices, Fits}
-use Rattle.bound_tree.specs.Value.{value}
-use Rattle.box_bound.specs.Bounded.{IsFlow}
-use Rattle.search_book.specs.declared.node.Phase.TheVariants.{Taken}
-use Rattle.search_book.specs.Nodes.{area_of, phase_of, HasPhase}
-use Rattle.search_book.specs.BookState.{BookState, best_cost}
-use Rattle.search_book.specs.Counts.{due_size}
-use Rattle.search_run.specs.declared.turn.Half.{Half}
+use Rattle.interval_box.specs.Ranges.{IsBoxOf}
+use Rattle.bound_tree.specs.Prices.{Fits}
+use Rattle.search_run.specs.declared.holds.Task.{Task}
+use Rattle.search_run.specs.declared.holds.Look.{Look}
+use Rattle.search_run.specs.declared.holds.Look.TheVariants.{Found, Again, Over}
+use Rattle.search_run.specs.declared.holds.Next.{Next}
+use Rattle.search_run.specs.declared.holds.Next.TheVariants.{Kept, Free, Over as Ends}
 
--- no node is Taken
-abbrev pub NoneTaken : BookState → Type 0
-NoneTaken s = (k : ℕ) → phase_of s.nodes k ≢ Taken
+-- a box of the job, and a row that fits it where there is one
+pub record IsTask (job : Job) (task : Task) : Type 0 where
+  pub of_job : IsBoxOf job task.area
+  pub fits : IfSome task.row (λ row. Fits job task.area row)
 
--- node n is Taken, and no other one
-pub record IsOnlyTaken (s : BookState) (n : ℕ) : Type 0 where
-  pub taken : HasPhase s.nodes n Taken
-  pub only : (k : ℕ) → phase_of s.nodes k ≡ Taken → k ≡ n
+-- a box that was found is one of the job
+abbrev pub IsTaskIn : Job → Look → Type 0
+IsTaskIn job (Found task) = IsTask job task
+IsTaskIn job Again = Unit {0}
+IsTaskIn job Over = Unit {0}
 
--- a half that was kept, with a row that fits its box
-pub record IsHalf (s : BookState) (half : Half) : Type 0 where
-  pub only : IsOnlyTaken s half.number
-  pub fits : Fits s.job (area_of s.nodes half.number) half.row
-
--- what a turn leaves to go on with: a half that was kept, or nothing
-abbrev pub IsLeft : BookState → Option Half → Type 0
-IsLeft s None = NoneTaken s
-IsLeft s (Some half) = IsHalf s half
-
--- a node was closed, and none is left Taken
-pub record IsClosing (s t : BookState) : Type 0 where
-  pub due : due_size t < due_size s
-  pub none_taken : NoneTaken t
-
--- a plan is known whose cost the value of a row reaches
-abbrev pub Reaches : BookState → IntervalBox → Prices → Type 0
-Reaches s area row = IsSomeAnd (best_cost s) (λ best. pos best ≤ℤ value s.job area row)
-
--- no plan is known, or the value of a row is below its cost
-abbrev pub IsBelow : BookState → IntervalBox → Prices → Type 0
-IsBelow s area row = IfSome (best_cost s) (λ best. value s.job area row <ℤ pos best)
-
--- the flow of a bound of a box, whatever its relaxed cost
-abbrev pub IsFlowOf : Job → IntervalBox → Plan → Prices → Type 0
-IsFlowOf job area plan row = (relaxed : ℕ) × IsFlow job area plan relaxed row
-
--- the low or the high half of a box
-abbrev pub half_of : IntervalBox → ℕ → ℕ → Bool → IntervalBox
-half_of area i at true = low_half area i at
-half_of area i at false = high_half area i at
+-- a half that was kept is a box of the job, with a row that fits it
+abbrev pub IsGoodFor : Job → Next → Type 0
+IsGoodFor job (Kept half) = IsBoxOf job half.area × Fits job half.area half.row
+IsGoodFor job Free = Unit {0}
+IsGoodFor job Ends = Unit {0}

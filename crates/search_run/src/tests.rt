@@ -1,31 +1,39 @@
-use crate::{search_one, settle};
+ghost use Rattle.std.specs.Prelude.{◌≤◌};
+
+use crate::{NoGate, search_many, search_one, settle};
 use search_book::{Book, BookVerdict};
 use std::alloc::Global;
 use std::process::Abort;
+use std::sync::Wait;
 use std::test::Fail;
+use std::thread::Threads;
 use tqd_base::{Memory, Stop};
 use tqd_instance::{Job, JobFault, JobParts, PriceRow};
 
-fn price(supplier: u32, from: u64, good: u32, price: u64) -> PriceRow {
-    PriceRow {
-        supplier,
-        from,
-        good,
-        price,
-    }
-}
+/// Supplier, least quantity of the interval, good and price of each row.
+const TWO_SUPPLIERS: [(u32, u64, u32, u64); 6] = [
+    (0, 1, 0, 1_000_000),
+    (0, 1, 1, 2_000_000),
+    (0, 150, 0, 900_000),
+    (0, 150, 1, 1_500_000),
+    (1, 1, 0, 950_000),
+    (1, 1, 1, 1_600_000),
+];
 
 /// Two goods at two suppliers, of which the first has two intervals, with a least number of winners.
 fn two_suppliers(alloc: Global, least: u64) -> Result<JobParts, Memory> {
     let mut parts = JobParts::new(alloc, 2)?;
-    parts.add_need(100)?;
-    parts.add_need(50)?;
-    parts.add_price(price(0, 1, 0, 1_000_000))?;
-    parts.add_price(price(0, 1, 1, 2_000_000))?;
-    parts.add_price(price(0, 150, 0, 900_000))?;
-    parts.add_price(price(0, 150, 1, 1_500_000))?;
-    parts.add_price(price(1, 1, 0, 950_000))?;
-    parts.add_price(price(1, 1, 1, 1_600_000))?;
+    for need in [100, 50] {
+        parts.add_need(need)?;
+    }
+    for (supplier, from, good, price) in TWO_SUPPLIERS {
+        parts.add_price(PriceRow {
+            supplier,
+            from,
+            good,
+            price,
+        })?;
+    }
     parts.set_winners(least, 64);
     Ok(parts)
 }
@@ -34,31 +42,44 @@ fn two_suppliers(alloc: Global, least: u64) -> Result<JobParts, Memory> {
 fn too_few(alloc: Global) -> Result<JobParts, Memory> {
     let mut parts = JobParts::new(alloc, 1)?;
     parts.add_need(30)?;
-    parts.add_price(price(0, 50, 0, 100_000))?;
+    parts.add_price(PriceRow {
+        supplier: 0,
+        from: 50,
+        good: 0,
+        price: 100_000,
+    })?;
     Ok(parts)
 }
 
-/// What the search finds out on the job of these parts.
-fn found(
-    rt: &impl Abort,
+/// What the search on one thread finds out on the job of these parts, and the search by so many workers, where there are
+/// some.
+fn found<R: Abort + Threads + Wait + Sync>(
+    rt: &R,
     alloc: Global,
     parts: &JobParts,
-) -> Result<Option<BookVerdict>, Stop<JobFault>> {
+    workers: u32,
+) -> Result<Option<BookVerdict>, Stop<JobFault>>
+    requires { workers ≤ 64 }
+{
     let formed = parts.is_well_formed(alloc)?;
     assert!(rt; formed);
     let job = Job::build(alloc, parts)?;
-    let book = search_one(alloc, &job)?;
-    Ok(book.verdict())
+    if workers == 0 {
+        return Ok(search_one(alloc, &job)?.verdict());
+    }
+    Ok(search_many(rt, alloc, &job, workers, &NoGate)?.verdict())
 }
 
 #[test]
 fn the_interval_of_the_total_is_found(rt: HostRuntime) -> Result<(), Fail> {
     for (least, want) in [(0, 165_000_000), (2, 175_050_000)] {
         let parts = two_suppliers(rt.alloc(), least)?;
-        assert_eq!(rt;
-            found(&rt, rt.alloc(), &parts)?,
-            Some(BookVerdict::Least(want))
-        );
+        for workers in [0, 1, 2, 64] {
+            assert_eq!(rt;
+                found(&rt, rt.alloc(), &parts, workers)?,
+                Some(BookVerdict::Least(want))
+            );
+        }
     }
     Ok(())
 }
@@ -66,10 +87,12 @@ fn the_interval_of_the_total_is_found(rt: HostRuntime) -> Result<(), Fail> {
 #[test]
 fn a_total_in_a_gap_is_no_purchase(rt: HostRuntime) -> Result<(), Fail> {
     let parts = too_few(rt.alloc())?;
-    assert_eq!(rt;
-        found(&rt, rt.alloc(), &parts)?,
-        Some(BookVerdict::NoPurchase)
-    );
+    for workers in [0, 2] {
+        assert_eq!(rt;
+            found(&rt, rt.alloc(), &parts, workers)?,
+            Some(BookVerdict::NoPurchase)
+        );
+    }
     Ok(())
 }
 
@@ -77,7 +100,7 @@ fn a_total_in_a_gap_is_no_purchase(rt: HostRuntime) -> Result<(), Fail> {
 fn nothing_is_needed_where_there_is_no_good(rt: HostRuntime) -> Result<(), Fail> {
     let parts = JobParts::new(rt.alloc(), 0)?;
     assert_eq!(rt;
-        found(&rt, rt.alloc(), &parts)?,
+        found(&rt, rt.alloc(), &parts, 0)?,
         Some(BookVerdict::Least(0))
     );
     Ok(())

@@ -1,6 +1,6 @@
 use Rattle.search_book.specs.Later.{IsLater}
 use Rattle.search_book.specs.Counts.{due_size}
-use Rattle.search_run.specs.Working.{NoneTaken}
+use Rattle.search_book.specs.Taken.{NoneTaken}
 use Rattle.search_run.proofs.search.settle.Given as goal
 
 abbrev pub invariant-loop-n : goal.invariant-loop-n
