@@ -2,10 +2,11 @@
 //! of the answer.
 #![tactic(auto)]
 
+use search_run::NoGate;
 use std::env;
 use std::process::ExitCode;
 use tqd_base::RealDesk;
-use tqd_top::run_plain;
+use tqd_top::run;
 
 /// The status where memory is wanting for the words, as that of the answer Memory.
 const NO_MEMORY: u8 = 7;
@@ -24,6 +25,6 @@ fn main(rt: HostRuntime) -> ExitCode {
         return ExitCode::from(NO_MEMORY);
     };
     let mut desk = RealDesk::new(&rt, alloc);
-    let ended = run_plain(alloc, &words, &mut desk);
+    let ended = run(&rt, alloc, &words, &mut desk, &NoGate);
     ExitCode::from(ended.status)
 }

@@ -1,22 +1,21 @@
 -- From what was found and printed to the cause of the answer.
-use Rattle.std.proofs.Common.{ℕ, ◌≡◌, ◌≤◌, Bool, List, [], Option, None, Some, take, refl, sym, ◌∙◌, ap, subst, arith, inl, inr, ◌⊎◌}
-use Rattle.std.specs.Prelude.{Result, Ok, Err, IsSome}
-use Rattle.tqd_base.specs.World.{World, State, Name, Bytes, IsIdle, NeverFall, Rose, print, set_file}
+use Rattle.std.proofs.Common.{ℕ, ◌≡◌, Bool, List, Option, None, Some, take, sym, ◌∙◌, subst, inl, inr}
+use Rattle.std.specs.Prelude.{Ok, Err}
+use Rattle.tqd_base.specs.World.{World, State, Name, Bytes, IsIdle, NeverFall, print, set_file}
 use Rattle.plan_report.specs.declared.file.InputFile.{InputFile}
 use Rattle.plan_report.specs.declared.file.InputFile.TheVariants.{Orders, Bill, Offers, Terms, Tree as TreeFile}
-use Rattle.tqd_top.specs.declared.answer.Target.TheVariants.{Tree, Out}
+use Rattle.tqd_top.specs.declared.answer.Target.TheVariants.{Tree}
 use Rattle.tqd_top.specs.declared.answer.Answer.{Answer}
-use Rattle.tqd_top.specs.declared.answer.Answer.TheVariants.{Solved, Infeasible, Accepted, AcceptedNone, Rejected, Listed, Words, BadInput, NotBuilt, ReadFault, WriteFault, Memory}
+use Rattle.tqd_top.specs.declared.answer.Answer.TheVariants.{Solved, Infeasible, Accepted, AcceptedNone, Rejected, Listed, Words, BadInput, ReadFault, WriteFault, Memory}
 use Rattle.tqd_top.specs.declared.answer.Found.{Found}
-use Rattle.tqd_top.specs.declared.answer.Lost.{Lost}
 use Rattle.tqd_top.specs.declared.answer.Lost.TheVariants.{Tree as LostTree, Memory as WantsMemory}
-use Rattle.tqd_top.specs.Words.{Asked, FilesNamed, ToCheck, ToMake, ToNeed, ToSolve, command_of}
+use Rattle.tqd_top.specs.Words.{Asked, FilesNamed, ToCheck, ToMake, ToNeed, ToSolve}
 use Rattle.tqd_top.specs.Reads.{FailsAt}
 use Rattle.tqd_top.specs.Unread.{FailsAtGiven, IsUnread, IsUnreadBill, IsUnreadWithTree}
 use Rattle.tqd_top.specs.Saves.{IsCutShort, saved}
-use Rattle.tqd_top.specs.Answers.{FailsOnlyInputs, HasCause, IsCutOff, IsFound, IsReadFault, IsUnreadBy}
-use Rattle.tqd_top.specs.Runs.{FindGives, Finds, Grows, IsQuiet, PrintGives}
-use Rattle.tqd_top.proofs.Readings.{falls_never, rose_before, rose_later}
+use Rattle.tqd_top.specs.Answers.{FailsOnlyInputs, HasCause, IsCutOff, IsFound, IsUnreadBy}
+use Rattle.tqd_top.specs.Runs.{Finds, Grows, PrintGives}
+use Rattle.tqd_top.proofs.Readings.{rose_before, rose_later}
 
 -- a reading fault that was found stands after the printing
 fails_still : (old mid new : State) (name : Name) → NeverFall mid.faults new.faults → new.failed_last ≡ mid.failed_last → FailsAt old mid name → FailsAt old new name
@@ -54,8 +53,7 @@ tree_still a old mid new files tree TreeFile falls kept f = (f.0, f.1, fails_sti
 
 unread_still : (a : Bool) (old mid new : State) (command : Asked) (file : InputFile) → NeverFall mid.faults new.faults → new.failed_last ≡ mid.failed_last
     → IsUnreadBy a old mid command file → IsUnreadBy a old new command file
-unread_still a old mid new (ToSolve files tree None) file falls kept f = files_still a old mid new files file falls kept f
-unread_still a old mid new (ToSolve files tree (Some workers)) file falls kept f = f
+unread_still a old mid new (ToSolve files tree workers) file falls kept f = files_still a old mid new files file falls kept f
 unread_still a old mid new (ToCheck files tree) file falls kept f = tree_still a old mid new files tree file falls kept f
 unread_still a old mid new (ToNeed orders bill) file falls kept f = bill_still a old mid new orders bill file falls kept f
 unread_still a old mid new (ToMake seed goods suppliers) file falls kept f = f
@@ -71,7 +69,6 @@ found_still a old mid new between words (Rejected rejection) text falls kept f =
 found_still a old mid new between words Listed text falls kept f = f
 found_still a old mid new between words Words text falls kept f = f
 found_still a old mid new between words (BadInput fault) text falls kept f = f
-found_still a old mid new between words NotBuilt text falls kept f = f
 found_still a old mid new between words (ReadFault file) text falls kept f =
     (f.0, record { command = f.1.command; words_are = f.1.words_are; unread = unread_still a old mid new f.1.command file falls kept f.1.unread; text_is = f.1.text_is })
 found_still a old mid new between words (WriteFault target) text falls kept f = absurd f
@@ -87,7 +84,6 @@ printed a old new between words (Rejected rejection) text f w = record { text = 
 printed a old new between words Listed text f w = record { text = text; between = between; found = f; world = w }
 printed a old new between words Words text f w = record { text = text; between = between; found = f; world = w }
 printed a old new between words (BadInput fault) text f w = record { text = text; between = between; found = f; world = w }
-printed a old new between words NotBuilt text f w = record { text = text; between = between; found = f; world = w }
 printed a old new between words (ReadFault file) text f w = record { text = text; between = between; found = f; world = w }
 printed a old new between words (WriteFault target) text f w = absurd f
 printed a old new between words Memory text f w = absurd f
@@ -151,7 +147,6 @@ idle_found a old new between words (Rejected rejection) text f idle = subst IsId
 idle_found a old new between words Listed text f idle = subst IsIdle (sym f.0) idle
 idle_found a old new between words Words text f idle = subst IsIdle (sym f.0) idle
 idle_found a old new between words (BadInput fault) text f idle = subst IsIdle (sym f.0) idle
-idle_found a old new between words NotBuilt text f idle = subst IsIdle (sym f.0) idle
 idle_found a old new between words (ReadFault file) text f idle = subst IsIdle (sym f.0) idle
 idle_found a old new between words (WriteFault target) text f idle = absurd f
 idle_found a old new between words Memory text f idle = absurd f

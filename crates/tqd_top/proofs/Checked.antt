@@ -4,7 +4,7 @@ use Rattle.std.specs.Prelude.{Result, Ok, Err, IsSome, IfSome, option_and_then, 
 use Rattle.std.specs.Option.{option_map}
 use Rattle.tqd_base.specs.declared.desk.DeskStop.{DeskStop}
 use Rattle.tqd_base.specs.declared.desk.DeskStop.TheVariants.{Failed, Memory as NoMemory}
-use Rattle.tqd_base.specs.World.{World, State, Slot, Name, Bytes, Reading, Reads, Rose, bytes_at, left_at, left_of, name_at, name_of, set_slot}
+use Rattle.tqd_base.specs.World.{World, State, Slot, Name, Bytes, Reading, Reads, bytes_at, left_at, left_of, name_at, name_of, set_slot}
 use Rattle.tqd_base.specs.Calls.{CloseGives, Closes, Opens, Rests}
 use Rattle.tqd_base.specs.TakeAll.{Drains}
 use Rattle.tqd_base.proofs.Worlds.{set_slot-same, set_slot-set_slot, slots-set_slot-same}
@@ -13,14 +13,13 @@ use Rattle.tree_checker.specs.declared.rejection.Verdict.{Verdict}
 use Rattle.tree_checker.specs.declared.checking.CheckStop.{CheckStop}
 use Rattle.tree_checker.specs.declared.checking.CheckStop.TheVariants.{Fault, Size as TooLong, Memory as WantsMemory}
 use Rattle.tree_checker.specs.CheckFrom.{CheckFromGives, IsTooLong, IsVerdictOf}
-use Rattle.plan_report.specs.declared.file.InputFile.{InputFile}
 use Rattle.plan_report.specs.declared.file.InputFile.TheVariants.{Tree}
 use Rattle.plan_report.specs.declared.fault.FileFault.TheVariants.{Size}
 use Rattle.tqd_top.specs.declared.halt.Halt.{Halt}
 use Rattle.tqd_top.specs.declared.halt.Halt.TheVariants.{Bad, Unread, Memory}
 use Rattle.tqd_top.specs.JobOf.{plainly}
-use Rattle.tqd_top.specs.Steps.{HaltsAt, IsFileUnread, IsStill}
-use Rattle.tqd_top.specs.CheckAnswer.{CheckFileGives, CheckSlotGives, IsLongTree, OpenTreeGives, Shows, SlotAnswers, StopHalts}
+use Rattle.tqd_top.specs.Steps.{HaltsAt}
+use Rattle.tqd_top.specs.CheckAnswer.{CheckFileGives, CheckSlotGives, OpenTreeGives, SlotAnswers, StopHalts}
 use Rattle.tqd_top.proofs.Readings.{falls_never, rose_before, rose_later}
 
 pub reads_some : (s : Option Slot) → Reads s → IsSome s

@@ -1,20 +1,19 @@
 -- Which answers come where no count of faults rises, and where the words are of no form.
-use Rattle.std.proofs.Common.{ℕ, ◌≡◌, ◌⊎◌, Bool, List, [], Option, None, Some, refl, sym, ◌∙◌, ap, subst, inl, inr}
-use Rattle.std.specs.Prelude.{Result, Ok, Err, IsSome, IfSome, unwrap_or}
+use Rattle.std.proofs.Common.{ℕ, ◌≡◌, Bool, List, [], Option, None, Some, refl, sym, ◌∙◌, ap, subst, inl, inr}
+use Rattle.std.specs.Prelude.{Ok, Err, IsSome, IfSome, unwrap_or}
 use Rattle.tqd_base.specs.World.{World, State, Name, Bytes, Rose, bytes_at}
 use Rattle.plan_report.specs.declared.file.InputFile.{InputFile}
 use Rattle.plan_report.specs.declared.file.InputFile.TheVariants.{Orders, Bill, Offers, Terms, Tree as TreeFile}
-use Rattle.plan_report.specs.declared.fault.FileFault.{FileFault}
 use Rattle.tqd_top.specs.declared.answer.Target.TheVariants.{Tree, Out}
 use Rattle.tqd_top.specs.declared.answer.Answer.{Answer}
-use Rattle.tqd_top.specs.declared.answer.Answer.TheVariants.{Solved, Infeasible, Accepted, AcceptedNone, Rejected, Listed, Words, BadInput, NotBuilt, ReadFault, WriteFault, Memory}
+use Rattle.tqd_top.specs.declared.answer.Answer.TheVariants.{Solved, Infeasible, Accepted, AcceptedNone, Rejected, Listed, Words, BadInput, ReadFault, WriteFault, Memory}
 use Rattle.tqd_top.specs.declared.reading.NeedsRead.{NeedsRead}
 use Rattle.tqd_top.specs.declared.reading.JobRead.{JobRead}
-use Rattle.tqd_top.specs.Words.{Asked, FilesNamed, IsCheck, IsMake, IsNeeds, IsNoForm, IsOtherForm, IsSolve, IsUnbuilt, ToCheck, ToMake, ToNeed, ToSolve, command_of}
+use Rattle.tqd_top.specs.Words.{Asked, FilesNamed, IsCheck, IsMake, IsNeeds, IsNoForm, IsSolve, ToCheck, ToMake, ToNeed, ToSolve, command_of}
 use Rattle.tqd_top.specs.JobOf.{JobOf, NeedsOf, Outcome, Told}
 use Rattle.tqd_top.specs.Unread.{IsUnread, IsUnreadBill, IsUnreadWithTree}
-use Rattle.tqd_top.specs.Answers.{HasCause, IsBadInput, IsChecked, IsFaultOf, IsJobOutcome, IsNeedsOutcome, IsReadFault, IsUnreadBy}
-use Rattle.tqd_top.specs.Complete.{IsAnswerToCheck, IsAnswerToMake, IsAnswerToNeeds, IsAnswerToNoForm, IsAnswerToOther, IsAnswerToSolve, IsAnswerToText, IsFaultless}
+use Rattle.tqd_top.specs.Answers.{HasCause, IsChecked, IsFaultOf, IsJobOutcome, IsNeedsOutcome, IsUnreadBy}
+use Rattle.tqd_top.specs.Complete.{IsAnswerToCheck, IsAnswerToMake, IsAnswerToNeeds, IsAnswerToNoForm, IsAnswerToSolve, IsAnswerToText, IsFaultless}
 use Rattle.tqd_top.specs.Reads.{ReadsAs}
 use Rattle.tqd_top.specs.CheckAnswer.{Shows}
 use Rattle.tqd_instance.specs.declared.job.Job.{Job}
@@ -36,8 +35,8 @@ same_command words x y p q = one_command x y (sym p ∙ q)
 not_none : (words : List Name) (x : Asked) → command_of words ≡ Some x → IsNoForm words → ⊥
 not_none words x p none = no_command x (sym p ∙ none)
 
-same_solve : (f g : FilesNamed) (t u : Option Name) → ToSolve f t None ≡ ToSolve g u None → f ≡ g
-same_solve f g t u e = cc
+same_solve : (f g : FilesNamed) (t u : Option Name) (n m : ℕ) → ToSolve f t n ≡ ToSolve g u m → f ≡ g
+same_solve f g t u n m e = cc
 
 same_needs : (o p : Name) (b c : Option Name) → ToNeed o b ≡ ToNeed p c → (o ≡ p) × (b ≡ c)
 same_needs o p b c e = (same_orders o p b c e, same_bill o p b c e) where
@@ -47,16 +46,16 @@ same_needs o p b c e = (same_orders o p b c e, same_bill o p b c e) where
   same_bill : (o p : Name) (b c : Option Name) → ToNeed o b ≡ ToNeed p c → b ≡ c
   same_bill o p b c e = cc
 
-solve_no_needs : (f : FilesNamed) (t : Option Name) (n : Option ℕ) (o : Name) (b : Option Name) → ToSolve f t n ≡ ToNeed o b → ⊥
+solve_no_needs : (f : FilesNamed) (t : Option Name) (n : ℕ) (o : Name) (b : Option Name) → ToSolve f t n ≡ ToNeed o b → ⊥
 solve_no_needs f t n o b e = cc
 
-solve_no_make : (f : FilesNamed) (t : Option Name) (n : Option ℕ) (s g m : ℕ) → ToSolve f t n ≡ ToMake s g m → ⊥
+solve_no_make : (f : FilesNamed) (t : Option Name) (n : ℕ) (s g m : ℕ) → ToSolve f t n ≡ ToMake s g m → ⊥
 solve_no_make f t n s g m e = cc
 
 needs_no_make : (o : Name) (b : Option Name) (s g m : ℕ) → ToNeed o b ≡ ToMake s g m → ⊥
 needs_no_make o b s g m e = cc
 
-check_no_solve : (f g : FilesNamed) (u : Name) (t : Option Name) (n : Option ℕ) → ToSolve f t n ≡ ToCheck g u → ⊥
+check_no_solve : (f g : FilesNamed) (u : Name) (t : Option Name) (n : ℕ) → ToSolve f t n ≡ ToCheck g u → ⊥
 check_no_solve f g u t n e = cc
 
 check_no_needs : (g : FilesNamed) (u o : Name) (b : Option Name) → ToNeed o b ≡ ToCheck g u → ⊥
@@ -96,8 +95,7 @@ tree_rose a old new files tree Terms f = files_rose a old new files Terms f
 tree_rose a old new files tree TreeFile f = f.2.rose
 
 unread_rose : (a : Bool) (old new : State) (command : Asked) (file : InputFile) → IsUnreadBy a old new command file → Rose old.faults.reading new.faults.reading
-unread_rose a old new (ToSolve files tree None) file f = files_rose a old new files file f
-unread_rose a old new (ToSolve files tree (Some workers)) file f = absurd f
+unread_rose a old new (ToSolve files tree workers) file f = files_rose a old new files file f
 unread_rose a old new (ToCheck files tree) file f = tree_rose a old new files tree file f
 unread_rose a old new (ToNeed orders bill) file f = bill_rose a old new orders bill file f
 unread_rose a old new (ToMake seed goods suppliers) file f = absurd f
@@ -116,34 +114,32 @@ solve_memory : (outcome : Outcome JobRead) → IsAnswerToSolve outcome Memory
 solve_memory (Ok read) = tt
 solve_memory (Err told) = tt
 
-solve_fault : (a : Bool) (w : World) (files : FilesNamed) (tree : Option Name) (command : Asked) (outcome : Outcome JobRead) (told : Told) → command ≡ ToSolve files tree None
+solve_fault : (a : Bool) (w : World) (files : FilesNamed) (tree : Option Name) (workers : ℕ) (command : Asked) (outcome : Outcome JobRead) (told : Told) → command ≡ ToSolve files tree workers
     → IsFaultOf a w command told → IsSome w.files → JobOf a w files outcome → IsAnswerToSolve outcome (BadInput told.fault)
-solve_fault a w files tree command outcome told same stated is_told given =
+solve_fault a w files tree workers command outcome told same stated is_told given =
     let here = subst (λ (c : Asked). IsFaultOf a w c told) same stated in
     subst (λ (o : Outcome JobRead). IsAnswerToSolve o (BadInput told.fault)) (sym (here.alone is_told outcome given)) refl
 
 pub answers_solve : (a : Bool) (old new : State) (words : List Name) (files : FilesNamed) (tree : Option Name) (outcome : Outcome JobRead) (answer : Answer) → IsSolve words files tree
     → IsSome old.world.files → JobOf a old.world files outcome → IsFaultless old new → HasCause a old new words answer → IsAnswerToSolve outcome answer
 answers_solve a old new words files tree outcome (Solved plan amount) is told given f c =
-    let same = same_solve c.found.files files c.found.tree tree (same_command words _ _ c.found.is_solve.words_are is.words_are) in
+    let same = same_solve c.found.files files c.found.tree tree _ _ (same_command words _ _ c.found.is_solve.words_are is.words_are) in
     subst (λ (o : Outcome JobRead). IsAnswerToSolve o (Solved plan amount)) (sym (job_outcome a old.world files c.found.files outcome (Ok c.found.read) same c.found.stated told given))
     c.found.solved.solves.0.least
 answers_solve a old new words files tree outcome Infeasible is told given f c =
-    let same = same_solve c.found.files files c.found.tree tree (same_command words _ _ c.found.is_solve.words_are is.words_are) in
+    let same = same_solve c.found.files files c.found.tree tree _ _ (same_command words _ _ c.found.is_solve.words_are is.words_are) in
     subst (λ (o : Outcome JobRead). IsAnswerToSolve o Infeasible) (sym (job_outcome a old.world files c.found.files outcome (Ok c.found.read) same c.found.stated told given))
     c.found.solved.solves.0
-answers_solve a old new words files tree outcome (Accepted cost) is told given f c = absurd (check_no_solve files c.found.1.files c.found.1.tree tree None (same_command words _ _ is.words_are c.found.1.is_check.words_are))
-answers_solve a old new words files tree outcome AcceptedNone is told given f c = absurd (check_no_solve files c.found.1.files c.found.1.tree tree None (same_command words _ _ is.words_are c.found.1.is_check.words_are))
-answers_solve a old new words files tree outcome (Rejected rejection) is told given f c = absurd (check_no_solve files c.found.1.files c.found.1.tree tree None (same_command words _ _ is.words_are c.found.1.is_check.words_are))
+answers_solve a old new words files tree outcome (Accepted cost) is told given f c = absurd (check_no_solve files c.found.1.files c.found.1.tree tree _ (same_command words _ _ is.words_are c.found.1.is_check.words_are))
+answers_solve a old new words files tree outcome AcceptedNone is told given f c = absurd (check_no_solve files c.found.1.files c.found.1.tree tree _ (same_command words _ _ is.words_are c.found.1.is_check.words_are))
+answers_solve a old new words files tree outcome (Rejected rejection) is told given f c = absurd (check_no_solve files c.found.1.files c.found.1.tree tree _ (same_command words _ _ is.words_are c.found.1.is_check.words_are))
 answers_solve a old new words files tree outcome Listed is told given f c = absurd (elim c.found.1 [
-  | inl listed ↦ solve_no_needs files tree None listed.orders listed.bill (same_command words _ _ is.words_are listed.is_needs.words_are)
-  | inr made ↦ solve_no_make files tree None made.seed made.goods made.suppliers (same_command words _ _ is.words_are made.is_make.words_are)
+  | inl listed ↦ solve_no_needs files tree _ listed.orders listed.bill (same_command words _ _ is.words_are listed.is_needs.words_are)
+  | inr made ↦ solve_no_make files tree _ made.seed made.goods made.suppliers (same_command words _ _ is.words_are made.is_make.words_are)
 ])
 answers_solve a old new words files tree outcome Words is told given f c = absurd (not_none words _ is.words_are c.found.1)
 answers_solve a old new words files tree outcome (BadInput fault) is told given f c =
-    solve_fault a old.world files tree c.found.1.command outcome (record { fault = fault; text = c.text }) (same_command words _ _ c.found.1.words_are is.words_are) c.found.1.stated told given
-answers_solve a old new words files tree outcome NotBuilt is told given f c =
-    absurd (subst IsUnbuilt (same_command words _ _ c.found.1.words_are is.words_are) c.found.1.unbuilt)
+    solve_fault a old.world files tree is.workers c.found.1.command outcome (record { fault = fault; text = c.text }) (same_command words _ _ c.found.1.words_are is.words_are) c.found.1.stated told given
 answers_solve a old new words files tree outcome (ReadFault file) is told given f c = absurd (f.reading (unread_rose a old new c.found.1.command file c.found.1.unread))
 answers_solve a old new words files tree outcome (WriteFault Out) is told given f c = absurd (f.printing c.0)
 answers_solve a old new words files tree outcome (WriteFault Tree) is told given f c = absurd (f.writing c.0)
@@ -163,9 +159,9 @@ needs_fault a w orders bill command outcome told same stated is_told given =
 pub answers_needs : (a : Bool) (old new : State) (words : List Name) (orders : Name) (bill : Option Name) (outcome : Outcome NeedsRead) (answer : Answer) → IsNeeds words orders bill
     → IsSome old.world.files → NeedsOf a old.world orders bill outcome → IsFaultless old new → HasCause a old new words answer → IsAnswerToNeeds outcome answer
 answers_needs a old new words orders bill outcome (Solved plan amount) is told given f c =
-    absurd (solve_no_needs c.found.files c.found.tree None orders bill (same_command words _ _ c.found.is_solve.words_are is.words_are))
+    absurd (solve_no_needs c.found.files c.found.tree _ orders bill (same_command words _ _ c.found.is_solve.words_are is.words_are))
 answers_needs a old new words orders bill outcome Infeasible is told given f c =
-    absurd (solve_no_needs c.found.files c.found.tree None orders bill (same_command words _ _ c.found.is_solve.words_are is.words_are))
+    absurd (solve_no_needs c.found.files c.found.tree _ orders bill (same_command words _ _ c.found.is_solve.words_are is.words_are))
 answers_needs a old new words orders bill outcome (Accepted cost) is told given f c = absurd (check_no_needs c.found.1.files c.found.1.tree orders bill (same_command words _ _ is.words_are c.found.1.is_check.words_are))
 answers_needs a old new words orders bill outcome AcceptedNone is told given f c = absurd (check_no_needs c.found.1.files c.found.1.tree orders bill (same_command words _ _ is.words_are c.found.1.is_check.words_are))
 answers_needs a old new words orders bill outcome (Rejected rejection) is told given f c = absurd (check_no_needs c.found.1.files c.found.1.tree orders bill (same_command words _ _ is.words_are c.found.1.is_check.words_are))
@@ -178,8 +174,6 @@ answers_needs a old new words orders bill outcome Listed is told given f c = eli
 answers_needs a old new words orders bill outcome Words is told given f c = absurd (not_none words _ is.words_are c.found.1)
 answers_needs a old new words orders bill outcome (BadInput fault) is told given f c =
     needs_fault a old.world orders bill c.found.1.command outcome (record { fault = fault; text = c.text }) (same_command words _ _ c.found.1.words_are is.words_are) c.found.1.stated told given
-answers_needs a old new words orders bill outcome NotBuilt is told given f c =
-    absurd (subst IsUnbuilt (same_command words _ _ c.found.1.words_are is.words_are) c.found.1.unbuilt)
 answers_needs a old new words orders bill outcome (ReadFault file) is told given f c = absurd (f.reading (unread_rose a old new c.found.1.command file c.found.1.unread))
 answers_needs a old new words orders bill outcome (WriteFault Out) is told given f c = absurd (f.printing c.0)
 answers_needs a old new words orders bill outcome (WriteFault Tree) is told given f c = absurd (f.writing c.0)
@@ -198,7 +192,6 @@ answers_no_form a old new words Listed none c = elim c.found.1 [
 ]
 answers_no_form a old new words Words none c = tt
 answers_no_form a old new words (BadInput fault) none c = not_none words _ c.found.1.words_are none
-answers_no_form a old new words NotBuilt none c = not_none words _ c.found.1.words_are none
 answers_no_form a old new words (ReadFault file) none c = not_none words _ c.found.1.words_are none
 answers_no_form a old new words (WriteFault Out) none c = tt
 answers_no_form a old new words (WriteFault Tree) none c = not_none words _ c.1.is_solve.words_are none
@@ -213,55 +206,18 @@ make_unread a old new command file s g m same unread = subst (λ (c : Asked). Is
 
 pub answers_make : (a : Bool) (old new : State) (words : List Name) (s g m : ℕ) (answer : Answer) → IsMake words s g m → IsFaultless old new → HasCause a old new words answer
     → IsAnswerToMake answer
-answers_make a old new words s g m (Solved plan amount) is f c = solve_no_make c.found.files c.found.tree None s g m (same_command words _ _ c.found.is_solve.words_are is.words_are)
-answers_make a old new words s g m Infeasible is f c = solve_no_make c.found.files c.found.tree None s g m (same_command words _ _ c.found.is_solve.words_are is.words_are)
+answers_make a old new words s g m (Solved plan amount) is f c = solve_no_make c.found.files c.found.tree _ s g m (same_command words _ _ c.found.is_solve.words_are is.words_are)
+answers_make a old new words s g m Infeasible is f c = solve_no_make c.found.files c.found.tree _ s g m (same_command words _ _ c.found.is_solve.words_are is.words_are)
 answers_make a old new words s g m (Accepted cost) is f c = check_no_make c.found.1.files c.found.1.tree s g m (same_command words _ _ is.words_are c.found.1.is_check.words_are)
 answers_make a old new words s g m AcceptedNone is f c = check_no_make c.found.1.files c.found.1.tree s g m (same_command words _ _ is.words_are c.found.1.is_check.words_are)
 answers_make a old new words s g m (Rejected rejection) is f c = check_no_make c.found.1.files c.found.1.tree s g m (same_command words _ _ is.words_are c.found.1.is_check.words_are)
 answers_make a old new words s g m Listed is f c = tt
 answers_make a old new words s g m Words is f c = not_none words _ is.words_are c.found.1
 answers_make a old new words s g m (BadInput fault) is f c = make_fault a old.world c.found.1.command _ s g m (same_command words _ _ c.found.1.words_are is.words_are) c.found.1.stated
-answers_make a old new words s g m NotBuilt is f c = subst IsUnbuilt (same_command words _ _ c.found.1.words_are is.words_are) c.found.1.unbuilt
 answers_make a old new words s g m (ReadFault file) is f c = make_unread a old new c.found.1.command file s g m (same_command words _ _ c.found.1.words_are is.words_are) c.found.1.unread
 answers_make a old new words s g m (WriteFault Out) is f c = f.printing c.0
 answers_make a old new words s g m (WriteFault Tree) is f c = f.writing c.0
 answers_make a old new words s g m Memory is f c = tt
-
--- words of a form that is not built have no other answer
-unbuilt_as : (words : List Name) (other : IsOtherForm words) (command : Asked) → command_of words ≡ Some command → IsUnbuilt command
-unbuilt_as words other command are = subst IsUnbuilt (same_command words _ _ other.words_are are) other.unbuilt
-
-unbuilt_fault : (a : Bool) (w : World) (command : Asked) (told : Told) → IsUnbuilt command → IsFaultOf a w command told → ⊥
-unbuilt_fault a w (ToSolve files tree None) told unbuilt stated = unbuilt
-unbuilt_fault a w (ToSolve files tree (Some workers)) told unbuilt stated = stated
-unbuilt_fault a w (ToCheck files tree) told unbuilt stated = unbuilt
-unbuilt_fault a w (ToNeed orders bill) told unbuilt stated = unbuilt
-unbuilt_fault a w (ToMake seed goods suppliers) told unbuilt stated = unbuilt
-
-unbuilt_unread : (a : Bool) (old new : State) (command : Asked) (file : InputFile) → IsUnbuilt command → IsUnreadBy a old new command file → ⊥
-unbuilt_unread a old new (ToSolve files tree None) file unbuilt unread = unbuilt
-unbuilt_unread a old new (ToSolve files tree (Some workers)) file unbuilt unread = unread
-unbuilt_unread a old new (ToCheck files tree) file unbuilt unread = unbuilt
-unbuilt_unread a old new (ToNeed orders bill) file unbuilt unread = unbuilt
-unbuilt_unread a old new (ToMake seed goods suppliers) file unbuilt unread = unbuilt
-
-pub answers_other : (a : Bool) (old new : State) (words : List Name) (answer : Answer) → IsOtherForm words → HasCause a old new words answer → IsAnswerToOther answer
-answers_other a old new words (Solved plan amount) other c = unbuilt_as words other _ c.found.is_solve.words_are
-answers_other a old new words Infeasible other c = unbuilt_as words other _ c.found.is_solve.words_are
-answers_other a old new words (Accepted cost) other c = unbuilt_as words other _ c.found.1.is_check.words_are
-answers_other a old new words AcceptedNone other c = unbuilt_as words other _ c.found.1.is_check.words_are
-answers_other a old new words (Rejected rejection) other c = unbuilt_as words other _ c.found.1.is_check.words_are
-answers_other a old new words Listed other c = elim c.found.1 [
-  | inl listed ↦ unbuilt_as words other _ listed.is_needs.words_are
-  | inr made ↦ unbuilt_as words other _ made.is_make.words_are
-]
-answers_other a old new words Words other c = not_none words _ other.words_are c.found.1
-answers_other a old new words (BadInput fault) other c = unbuilt_fault a old.world c.found.1.command _ (unbuilt_as words other _ c.found.1.words_are) c.found.1.stated
-answers_other a old new words NotBuilt other c = tt
-answers_other a old new words (ReadFault file) other c = unbuilt_unread a old new c.found.1.command file (unbuilt_as words other _ c.found.1.words_are) c.found.1.unread
-answers_other a old new words (WriteFault Out) other c = tt
-answers_other a old new words (WriteFault Tree) other c = unbuilt_as words other _ c.1.is_solve.words_are
-answers_other a old new words Memory other c = tt
 
 -- `check`
 text_memory : (a : Bool) (w : World) (tree : Name) (outcome : Outcome JobRead) → IsAnswerToCheck a w tree outcome Memory
@@ -301,9 +257,9 @@ check_fault a w files tree command outcome told same stated is_told given = elim
 pub answers_check : (a : Bool) (old new : State) (words : List Name) (files : FilesNamed) (tree : Name) (outcome : Outcome JobRead) (answer : Answer) → IsCheck words files tree
     → IsSome old.world.files → JobOf a old.world files outcome → IsFaultless old new → HasCause a old new words answer → IsAnswerToCheck a old.world tree outcome answer
 answers_check a old new words files tree outcome (Solved plan amount) is told given f c =
-    absurd (check_no_solve c.found.files files tree c.found.tree None (same_command words _ _ c.found.is_solve.words_are is.words_are))
+    absurd (check_no_solve c.found.files files tree c.found.tree _ (same_command words _ _ c.found.is_solve.words_are is.words_are))
 answers_check a old new words files tree outcome Infeasible is told given f c =
-    absurd (check_no_solve c.found.files files tree c.found.tree None (same_command words _ _ c.found.is_solve.words_are is.words_are))
+    absurd (check_no_solve c.found.files files tree c.found.tree _ (same_command words _ _ c.found.is_solve.words_are is.words_are))
 answers_check a old new words files tree outcome (Accepted cost) is told given f c =
     checked_by a old.world words files tree outcome (Accepted cost) c.text is told given c.found.1 (λ shown e. e ∙ c.found.1.answers.0)
 answers_check a old new words files tree outcome AcceptedNone is told given f c =
@@ -317,8 +273,6 @@ answers_check a old new words files tree outcome Listed is told given f c = absu
 answers_check a old new words files tree outcome Words is told given f c = absurd (not_none words _ is.words_are c.found.1)
 answers_check a old new words files tree outcome (BadInput fault) is told given f c =
     check_fault a old.world files tree c.found.1.command outcome (record { fault = fault; text = c.text }) (same_command words _ _ c.found.1.words_are is.words_are) c.found.1.stated told given
-answers_check a old new words files tree outcome NotBuilt is told given f c =
-    absurd (subst IsUnbuilt (same_command words _ _ c.found.1.words_are is.words_are) c.found.1.unbuilt)
 answers_check a old new words files tree outcome (ReadFault file) is told given f c = absurd (f.reading (unread_rose a old new c.found.1.command file c.found.1.unread))
 answers_check a old new words files tree outcome (WriteFault Out) is told given f c = absurd (f.printing c.0)
 answers_check a old new words files tree outcome (WriteFault Tree) is told given f c = absurd (f.writing c.0)

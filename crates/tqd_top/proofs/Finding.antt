@@ -1,12 +1,11 @@
 -- From what the steps of a command gave to the answer that was found for the words.
-use Rattle.std.proofs.Common.{ℕ, ◌≡◌, ◌⊎◌, Bool, List, Option, None, Some, refl, sym, ◌∙◌, ap, subst, inl, inr}
+use Rattle.std.proofs.Common.{ℕ, ◌≡◌, ◌⊎◌, Bool, List, Option, Some, refl, sym, ◌∙◌, subst, inl, inr}
 use Rattle.std.specs.Prelude.{Result, Ok, Err, IsSome, IfOk}
 use Rattle.tqd_base.specs.declared.memory.Memory.{Memory as NoMemory}
 use Rattle.tqd_base.specs.World.{World, State, Name, Bytes, IsIdle}
 use Rattle.tqd_base.specs.Calls.{Rests}
 use Rattle.plan_report.specs.declared.file.InputFile.{InputFile}
 use Rattle.plan_report.specs.declared.file.InputFile.TheVariants.{Orders, Bill, Offers, Terms, Tree as TreeFile}
-use Rattle.plan_report.specs.declared.fault.FileFault.{FileFault}
 use Rattle.plan_report.specs.FaultText.{unread_text}
 use Rattle.plan_report.specs.NeedsText.{needs_text}
 use Rattle.tqd_top.specs.declared.halt.Halt.{Halt}
@@ -15,17 +14,17 @@ use Rattle.tqd_top.specs.declared.answer.Lost.{Lost}
 use Rattle.tqd_top.specs.declared.answer.Lost.TheVariants.{Tree as LostTree, Memory as WantsMemory}
 use Rattle.tqd_top.specs.declared.answer.Found.{Found}
 use Rattle.tqd_top.specs.declared.answer.Answer.{Answer}
-use Rattle.tqd_top.specs.declared.answer.Answer.TheVariants.{Solved, Infeasible, Accepted, AcceptedNone, Rejected, Listed, Words, BadInput, NotBuilt, ReadFault, WriteFault, Memory}
+use Rattle.tqd_top.specs.declared.answer.Answer.TheVariants.{Solved, Infeasible, Accepted, AcceptedNone, Rejected, Listed, Words, BadInput, ReadFault, WriteFault, Memory}
 use Rattle.tqd_top.specs.declared.reading.NeedsRead.{NeedsRead}
 use Rattle.tqd_top.specs.declared.reading.JobRead.{JobRead}
-use Rattle.tqd_top.specs.Words.{Asked, FilesNamed, IsFileOf, IsInput, IsReadBy, ToCheck, ToMake, ToNeed, ToSolve, command_of}
+use Rattle.tqd_top.specs.Words.{Asked, FilesNamed, IsFileOf, IsReadBy, ToCheck, ToMake, ToNeed, ToSolve, command_of}
 use Rattle.tqd_top.specs.Reads.{FailsAt}
-use Rattle.tqd_top.specs.JobOf.{IsOnly, JobOf, NeedsOf, Told}
+use Rattle.tqd_top.specs.JobOf.{JobOf, NeedsOf}
 use Rattle.tqd_top.specs.Unread.{IsUnread, IsUnreadBill, IsUnreadWithTree}
-use Rattle.tqd_top.specs.Steps.{IsStill, ReadGives}
+use Rattle.tqd_top.specs.Steps.{ReadGives}
 use Rattle.tqd_top.specs.SolveAnswer.{IsLost, IsSolved, SolveGives}
-use Rattle.tqd_top.specs.Answers.{FailsOnlyInputs, IsFaultOf, IsFound, IsJobOutcome, IsNeedsOutcome, IsTreeLost, IsUnreadBy}
-use Rattle.tqd_top.specs.Runs.{Checks, FindGives, Finds, HaltFound, HaltsBy, IsQuiet, ListGives, Lists, VerdictGives, or_lost}
+use Rattle.tqd_top.specs.Answers.{FailsOnlyInputs, IsFound, IsJobOutcome, IsNeedsOutcome, IsTreeLost, IsUnreadBy}
+use Rattle.tqd_top.specs.Runs.{Checks, Finds, HaltFound, HaltsBy, IsQuiet, Lists, VerdictGives, or_lost}
 use Rattle.tqd_top.specs.Saves.{IsSteady}
 use Rattle.tqd_top.specs.MakeAnswer.{SumsUp}
 use Rattle.tqd_base.proofs.DeskLemmas.{same_faults}
@@ -63,8 +62,7 @@ tree_input a old new files tree TreeFile f told = (tree, inr refl, f.2.named tol
 
 unread_input : (a : Bool) (old new : State) (command : Asked) (file : InputFile) → IsUnreadBy a old new command file → IsSome old.world.files
     → (name : Name) × IsReadBy command name × (new.failed_last ≡ Some name)
-unread_input a old new (ToSolve files tree None) file f told = file_input a old new files file f told
-unread_input a old new (ToSolve files tree (Some workers)) file f told = absurd f
+unread_input a old new (ToSolve files tree workers) file f told = file_input a old new files file f told
 unread_input a old new (ToCheck files tree) file f told = tree_input a old new files tree file f told
 unread_input a old new (ToNeed orders bill) file f told = bill_input a old new orders bill file f told
 unread_input a old new (ToMake seed goods suppliers) file f told = absurd f
@@ -82,11 +80,11 @@ rests_same s = record { world = refl; kept = refl; never_fall = same_faults s.fa
 pub quiet_rests : (old new : State) (words : List Name) → Rests old new → IsQuiet old new words
 quiet_rests old new words r = record { never_fall = r.never_fall; named = λ told. inl r.kept }
 
-pub solve_halts : (a : Bool) (old new : State) (files : FilesNamed) (tree : Option Name) (halt : Halt)
-    → ReadGives {V = JobRead} (JobOf a old.world files) (IsUnread a old new files) old new (Err halt) → HaltsBy a old new (ToSolve files tree None) halt
-solve_halts a old new files tree (Bad fault text) h = h
-solve_halts a old new files tree (Unread file) h = h
-solve_halts a old new files tree HaltsForMemory h = h
+pub solve_halts : (a : Bool) (old new : State) (files : FilesNamed) (tree : Option Name) (workers : ℕ) (halt : Halt)
+    → ReadGives {V = JobRead} (JobOf a old.world files) (IsUnread a old new files) old new (Err halt) → HaltsBy a old new (ToSolve files tree workers) halt
+solve_halts a old new files tree workers (Bad fault text) h = h
+solve_halts a old new files tree workers (Unread file) h = h
+solve_halts a old new files tree workers HaltsForMemory h = h
 
 pub needs_halts : (a : Bool) (old new : State) (orders : Name) (bill : Option Name) (halt : Halt)
     → ReadGives {V = NeedsRead} (NeedsOf a old.world orders bill) (IsUnreadBill a old new orders bill) old new (Err halt) → HaltsBy a old new (ToNeed orders bill) halt
@@ -185,7 +183,6 @@ checked_found a old new words files tree shown (Rejected rejection) text are sam
 checked_found a old new words files tree shown Listed text are same c v = absurd v
 checked_found a old new words files tree shown Words text are same c v = absurd v
 checked_found a old new words files tree shown (BadInput fault) text are same c v = absurd v
-checked_found a old new words files tree shown NotBuilt text are same c v = absurd v
 checked_found a old new words files tree shown (ReadFault file) text are same c v = absurd v
 checked_found a old new words files tree shown (WriteFault target) text are same c v = absurd v
 checked_found a old new words files tree shown Memory text are same c v = absurd v
@@ -204,57 +201,51 @@ makes a s words seed goods suppliers (Ok found) are same_answer sums =
     (refl, inr (record { seed = seed; goods = goods; suppliers = suppliers; is_make = record { words_are = are }; sums_up = sums })) same_answer refl
 makes a s words seed goods suppliers (Err stop) are same_answer sums = record { quiet = quiet_rests s s words (rests_same s); gives = refl }
 
--- an answer that needs no file
-pub fixed_lists : (a : Bool) (s : State) (words : List Name) (answer : Answer) (text : Bytes) (r : Result Found NoMemory) → IsFound a s s s.world words answer text
-    → IfOk r (λ found. found.answer ≡ answer) → IfOk r (λ found. found.text.items ≡ text) → Lists a s s words r
-fixed_lists a s words answer text r f same_answer same_text = steady_lists a s s words answer text r (rests_same s) f same_answer same_text
-
 -- the answer to a job that was read
-solved_found : (a : Bool) (old new : State) (between : World) (words : List Name) (files : FilesNamed) (tree : Option Name) (read : JobRead) (answer : Answer) (text : Bytes)
-    → command_of words ≡ Some (ToSolve files tree None) → IsJobOutcome a old.world files (Ok read) → IsSolved read old.world between tree answer text
+solved_found : (a : Bool) (old new : State) (between : World) (words : List Name) (files : FilesNamed) (tree : Option Name) (workers : ℕ) (read : JobRead) (answer : Answer) (text : Bytes)
+    → command_of words ≡ Some (ToSolve files tree workers) → IsJobOutcome a old.world files (Ok read) → IsSolved read old.world between tree answer text
     → IsFound a old new between words answer text
-solved_found a old new between words files tree read (Solved plan amount) text are stated s =
-    record { files = files; tree = tree; is_solve = record { words_are = are }; read = read; stated = stated; solved = s }
-solved_found a old new between words files tree read Infeasible text are stated s =
-    record { files = files; tree = tree; is_solve = record { words_are = are }; read = read; stated = stated; solved = s }
-solved_found a old new between words files tree read (Accepted cost) text are stated s = absurd s.solves
-solved_found a old new between words files tree read AcceptedNone text are stated s = absurd s.solves
-solved_found a old new between words files tree read (Rejected rejection) text are stated s = absurd s.solves
-solved_found a old new between words files tree read Listed text are stated s = absurd s.solves
-solved_found a old new between words files tree read Words text are stated s = absurd s.solves
-solved_found a old new between words files tree read (BadInput fault) text are stated s = absurd s.solves
-solved_found a old new between words files tree read NotBuilt text are stated s = absurd s.solves
-solved_found a old new between words files tree read (ReadFault file) text are stated s = absurd s.solves
-solved_found a old new between words files tree read (WriteFault target) text are stated s = absurd s.solves
-solved_found a old new between words files tree read Memory text are stated s = absurd s.solves
+solved_found a old new between words files tree workers read (Solved plan amount) text are stated s =
+    record { files = files; tree = tree; is_solve = record { workers = workers; words_are = are }; read = read; stated = stated; solved = s }
+solved_found a old new between words files tree workers read Infeasible text are stated s =
+    record { files = files; tree = tree; is_solve = record { workers = workers; words_are = are }; read = read; stated = stated; solved = s }
+solved_found a old new between words files tree workers read (Accepted cost) text are stated s = absurd s.solves
+solved_found a old new between words files tree workers read AcceptedNone text are stated s = absurd s.solves
+solved_found a old new between words files tree workers read (Rejected rejection) text are stated s = absurd s.solves
+solved_found a old new between words files tree workers read Listed text are stated s = absurd s.solves
+solved_found a old new between words files tree workers read Words text are stated s = absurd s.solves
+solved_found a old new between words files tree workers read (BadInput fault) text are stated s = absurd s.solves
+solved_found a old new between words files tree workers read (ReadFault file) text are stated s = absurd s.solves
+solved_found a old new between words files tree workers read (WriteFault target) text are stated s = absurd s.solves
+solved_found a old new between words files tree workers read Memory text are stated s = absurd s.solves
 
-lost_found : (a : Bool) (old between : World) (words : List Name) (files : FilesNamed) (tree : Option Name) (read : JobRead)
-    → command_of words ≡ Some (ToSolve files tree None) → IsJobOutcome a old files (Ok read) → IsLost read old between tree → IsTreeLost a old between words
-lost_found a old between words files tree read are stated l =
-    record { files = files; tree = tree; is_solve = record { words_are = are }; read = read; stated = stated; lost = l }
+lost_found : (a : Bool) (old between : World) (words : List Name) (files : FilesNamed) (tree : Option Name) (workers : ℕ) (read : JobRead)
+    → command_of words ≡ Some (ToSolve files tree workers) → IsJobOutcome a old files (Ok read) → IsLost read old between tree → IsTreeLost a old between words
+lost_found a old between words files tree workers read are stated l =
+    record { files = files; tree = tree; is_solve = record { workers = workers; words_are = are }; read = read; stated = stated; lost = l }
 
 solve_quiet : (old mid new : State) (words : List Name) → Rests old mid → IsSteady mid new → IsQuiet old new words
 solve_quiet old mid new words rests s = record { never_fall = falls_never _ mid.faults _ rests.never_fall s.never_fall; named = λ told. inl (s.kept ∙ rests.kept) }
 
-pub solve_finds : (a : Bool) (old mid new : State) (words : List Name) (files : FilesNamed) (tree : Option Name) (read : JobRead) (r : Result Found Lost)
-    → command_of words ≡ Some (ToSolve files tree None) → Rests old mid → IsJobOutcome a old.world files (Ok read) → SolveGives read mid new tree r → Finds a old new words r
-solve_finds a old mid new words files tree read (Ok found) are rests stated g = record {
+pub solve_finds : (a : Bool) (old mid new : State) (words : List Name) (files : FilesNamed) (tree : Option Name) (workers : ℕ) (read : JobRead) (r : Result Found Lost)
+    → command_of words ≡ Some (ToSolve files tree workers) → Rests old mid → IsJobOutcome a old.world files (Ok read) → SolveGives read mid new tree r → Finds a old new words r
+solve_finds a old mid new words files tree workers read (Ok found) are rests stated g = record {
   quiet = solve_quiet old mid new words rests g.0;
-  gives = solved_found a old new new.world words files tree read found.answer found.text.items are stated
+  gives = solved_found a old new new.world words files tree workers read found.answer found.text.items are stated
       (subst (λ (w : World). IsSolved read w new.world tree found.answer found.text.items) rests.world g.1);
 }
-solve_finds a old mid new words files tree read (Err LostTree) are rests stated g = record {
+solve_finds a old mid new words files tree workers read (Err LostTree) are rests stated g = record {
   quiet = solve_quiet old mid new words rests g.0;
   gives = (
     rose_later old.faults.writing mid.faults.writing new.faults.writing rests.never_fall.writing g.1,
-    lost_found a old.world new.world words files tree read are stated (subst (λ (w : World). IsLost read w new.world tree) rests.world g.2),
+    lost_found a old.world new.world words files tree workers read are stated (subst (λ (w : World). IsLost read w new.world tree) rests.world g.2),
   );
 }
-solve_finds a old mid new words files tree read (Err WantsMemory) are rests stated g = record {
+solve_finds a old mid new words files tree workers read (Err WantsMemory) are rests stated g = record {
   quiet = solve_quiet old mid new words rests g.0;
   gives = elim g.1 [
     | inl same ↦ inl (same ∙ rests.world)
-    | inr lost ↦ inr (lost_found a old.world new.world words files tree read are stated (subst (λ (w : World). IsLost read w new.world tree) rests.world lost))
+    | inr lost ↦ inr (lost_found a old.world new.world words files tree workers read are stated (subst (λ (w : World). IsLost read w new.world tree) rests.world lost))
   ];
 }
 

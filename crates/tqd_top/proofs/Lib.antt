@@ -4,8 +4,9 @@ pub mod OneOutcome
 pub mod ReadFacts
 pub mod Saved
 pub mod Solutions
-pub mod MakeWords
+pub mod Ranges
 pub mod Checked
 pub mod Finding
 pub mod Causes
 pub mod Completes
+pub mod Headlines

@@ -1,5 +1,5 @@
 -- A bill has one explosion, and the parts of a job have one job or one first fault.
-use Rattle.std.proofs.Common.{ℕ, ◌≡◌, ◌≢◌, ◌<◌, ◌≤◌, List, [], length, refl, sym, ◌∙◌, ap, subst, arith, inl, inr}
+use Rattle.std.proofs.Common.{ℕ, ◌≡◌, [], refl, sym, ◌∙◌, ap, subst, arith, inl, inr}
 use Rattle.std.proofs.lemmas.Bool.{cases_order}
 use Rattle.std.specs.Prelude.{Result, Ok, Err}
 use Rattle.tqd_base.specs.declared.memory.Stop.{Stop}
@@ -13,7 +13,6 @@ use Rattle.bom_explode.specs.declared.fault.ExplodeFault.TheVariants.{Circle, Ne
 use Rattle.plan_report.specs.FaultText.{IsFaultNamed}
 use Rattle.bom_explode.proofs.Structures.{IsStructure-of}
 use Rattle.bom_explode.proofs.Agreeing.{answers_agree}
-use Rattle.offer_reader.specs.Book.{BookData}
 use Rattle.tqd_instance.specs.PartsData.{PartsData}
 use Rattle.tqd_instance.specs.Parts.{IsWellFormed}
 use Rattle.tqd_instance.specs.Built.{IsFirstBadShare, IsFirstLack, Passes, Refuses}

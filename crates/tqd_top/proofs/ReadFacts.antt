@@ -1,5 +1,5 @@
 -- What holds of offers and terms that files state, and so of the names that a fault of the job tells.
-use Rattle.std.proofs.Common.{ℕ, ◌≡◌, ◌<◌, ◌≤◌, Bool, true, false, List, [], ◌∷◌, length, Option, None, Some, refl, sym, ◌∙◌, ap, subst, arith}
+use Rattle.std.proofs.Common.{ℕ, ◌≡◌, ◌<◌, Bool, true, false, List, [], ◌∷◌, length, Option, None, Some, refl, sym, ◌∙◌, ap, subst, arith}
 use Rattle.std.proofs.lemmas.Grind.{get_or_default_zero}
 use Rattle.std.proofs.lemmas.List.Elements.{All-get_or}
 use Rattle.std.specs.Prelude.{Result, Ok, Err, All, fold, slice_index, nat_lt, if◌then◌else◌}
@@ -18,8 +18,6 @@ use Rattle.offer_reader.specs.declared.fault.OfferFault.{OfferFault}
 use Rattle.offer_reader.specs.declared.term_fault.TermFault.{TermFault}
 use Rattle.bom_reader.specs.Rows.{Row}
 use Rattle.tqd_instance.specs.PartsData.{PartsData}
-use Rattle.tqd_instance.specs.Parts.{IsWellFormed}
-use Rattle.tqd_instance.specs.declared.job.Job.{Job}
 use Rattle.tqd_instance.specs.Job.{goods, suppliers}
 use Rattle.tqd_instance.specs.Built.{IsJobOf, Refuses}
 use Rattle.tqd_instance.specs.declared.parts.JobFault.{JobFault}
@@ -32,7 +30,7 @@ use Rattle.tqd_top.specs.declared.reading.NeedsRead.{NeedsRead}
 use Rattle.tqd_top.specs.declared.reading.OffersRead.{OffersRead}
 use Rattle.tqd_top.specs.declared.reading.JobRead.{JobRead}
 use Rattle.tqd_top.specs.Words.{FilesNamed}
-use Rattle.tqd_top.specs.JobOf.{Told, ExplosionGives, JobOf, NeedsOf, before_job, OffersOf, TermsGive, TermsOf, offers_stated, plainly, sized, terms_stated, wanted}
+use Rattle.tqd_top.specs.JobOf.{Told, JobOf, NeedsOf, before_job, OffersOf, TermsGive, TermsOf, offers_stated, plainly, terms_stated, wanted}
 use Rattle.tqd_top.specs.ReadBook.{IsReadBook, IsReadJob}
 
 no_value : {F W : Type 0} (f : F) (w : W) → ◌≡◌ {A = Result W F} (Err f) (Ok w) → ⊥

@@ -1,13 +1,13 @@
 -- Reading files one after the other.
-use Rattle.std.proofs.Common.{ℕ, ◌≡◌, ◌+◌, ◌<◌, ◌≤◌, Bool, true, false, Option, None, Some, List, [], length, replicate, refl, sym, ◌∙◌, ap, subst, arith, inl, inr}
+use Rattle.std.proofs.Common.{ℕ, ◌≡◌, ◌+◌, ◌<◌, ◌≤◌, Bool, true, false, Option, None, Some, [], length, replicate, refl, sym, ◌∙◌, ap, subst, arith, inl, inr}
 use Rattle.std.proofs.lemmas.Bool.{le-ltb, lt-ltb}
 use Rattle.std.proofs.lemmas.List.{length-replicate}
-use Rattle.std.specs.Prelude.{IsSome, IfSome, Result, Ok, Err, nat_lt, if◌then◌else◌, unwrap_or}
+use Rattle.std.specs.Prelude.{IsSome, IfSome, Result, Ok, Err, nat_lt, unwrap_or}
 use Rattle.std.specs.Option.{option_map}
 use Rattle.tqd_base.specs.declared.limits.TheConstants.{FILE_MAX}
 use Rattle.tqd_base.specs.World.{World, State, Name, Bytes, Faults, NeverFall, Rose, bytes_at}
 use Rattle.tqd_base.specs.Calls.{Rests, FailsReading}
-use Rattle.tqd_base.specs.ReadAll.{IsWhole, IsTooLong}
+use Rattle.tqd_base.specs.ReadAll.{IsTooLong}
 use Rattle.plan_report.specs.declared.file.InputFile.{InputFile}
 use Rattle.plan_report.specs.declared.fault.FileFault.TheVariants.{Size}
 use Rattle.tqd_top.specs.declared.halt.Halt.{Halt}
@@ -40,10 +40,6 @@ fails_later old mid new name r f = record {
   rose = rose_later old.faults.reading mid.faults.reading new.faults.reading r.never_fall.reading f.rose;
   named = λ told. f.named (subst (λ (w : World). IsSome w.files) (sym r.world) told);
 }
-
--- what reading a whole file says of it
-pub whole_file : (a : Bool) (w : World) (name : Name) (limit : ℕ) (bytes : Bytes) → IsWhole a w name limit bytes → ReadsAs a w name bytes × (length bytes ≤ limit)
-whole_file a w name limit bytes h = (record { readable = h.readable; all = h.all }, h.within)
 
 -- bytes that are too many, where the file is told or not
 long_bytes : (o : Option Bytes) (limit : ℕ) → IfSome o (λ file. limit < length file) → (bytes : Bytes) × IfSome o (λ file. bytes ≡ file) × (limit < length bytes)

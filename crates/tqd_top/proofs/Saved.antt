@@ -1,10 +1,10 @@
 -- Making, writing and closing the file of a tree.
-use Rattle.std.proofs.Common.{ℕ, ◌≡◌, ◌≤◌, Bool, true, false, List, [], ◌++◌, Option, None, Some, length, take, refl, sym, ◌∙◌, ap, subst, arith, inl, inr}
+use Rattle.std.proofs.Common.{ℕ, ◌≡◌, Bool, true, false, [], ◌++◌, Option, None, Some, length, take, refl, sym, ◌∙◌, ap, subst, arith, inl, inr}
 use Rattle.std.proofs.Math.Seq.{take-length}
 use Rattle.std.specs.Prelude.{IsSome, Result, Ok, Err, if◌then◌else◌, nat_eq, unwrap_or}
 use Rattle.std.specs.Option.{option_map}
 use Rattle.std.specs.Cmp.Lexicographic.{pointwise}
-use Rattle.tqd_base.specs.World.{World, State, Slot, Name, Bytes, Faults, NeverFall, Writes, Writing, append, name_at, name_of, set_file, set_slot}
+use Rattle.tqd_base.specs.World.{World, State, Slot, Name, Bytes, Writes, Writing, append, name_at, name_of, set_file, set_slot}
 use Rattle.tqd_base.specs.Calls.{Closes, Makes, Puts, PutsPrefix, Rests}
 use Rattle.tqd_base.proofs.Worlds.{same_world, set_slot-same, set_slot-set_slot, slots-set_slot-same}
 use Rattle.tqd_base.proofs.DeskLemmas.{same_faults, writes_some}

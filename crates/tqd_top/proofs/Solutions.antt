@@ -1,10 +1,9 @@
 -- What a finished search says, and the answer that it gives.
-use Rattle.std.proofs.Common.{ℕ, ◌≡◌, ◌<◌, List, length, Option, None, Some, refl, sym, ◌∙◌, ap, subst, inl, inr}
+use Rattle.std.proofs.Common.{ℕ, ◌≡◌, List, Option, None, Some, refl, sym, ◌∙◌, ap, subst, inl, inr}
 use Rattle.std.specs.Prelude.{Result, Ok, Err, IfOk, IfSome, MatchOption}
 use Rattle.std.specs.Option.{option_map}
 use Rattle.tqd_base.specs.declared.memory.Memory.{Memory as NoMemory}
-use Rattle.tqd_base.specs.World.{World, State, Name, Bytes}
-use Rattle.tqd_base.specs.Calls.{Rests}
+use Rattle.tqd_base.specs.World.{State, Name, Bytes}
 use Rattle.tqd_instance.specs.declared.job.Job.{Job}
 use Rattle.tqd_instance.specs.declared.plan.Plan.{Plan}
 use Rattle.tqd_instance.specs.Plan.{units}
@@ -20,7 +19,7 @@ use Rattle.search_book.specs.BookState.{BookState}
 use Rattle.search_book.specs.Events.{IsPlanAt}
 use Rattle.search_book.specs.TreeOf.{IsTreeFor}
 use Rattle.search_book.specs.Answers.{Decides}
-use Rattle.order_gen.specs.GenParts.{HasPurchase, IsGenJob}
+use Rattle.order_gen.specs.GenParts.{IsGenJob}
 use Rattle.plan_report.specs.AnswerText.{summary_text}
 use Rattle.tqd_top.specs.MakeAnswer.{SumsUp}
 use Rattle.tqd_top.specs.declared.answer.Answer.{Answer}
@@ -29,7 +28,7 @@ use Rattle.tqd_top.specs.declared.answer.Lost.TheVariants.{Tree, Memory}
 use Rattle.tqd_top.specs.declared.reading.JobRead.{JobRead}
 use Rattle.tqd_top.specs.Certificate.{Certifies, IsFinished, IsSolution, bought_by}
 use Rattle.tqd_top.specs.Saves.{IsSteady, SaveGivenGives}
-use Rattle.tqd_top.specs.SolveAnswer.{IsLost, IsSolved, SolveGives, SolvesJob, solution_answer, solution_text}
+use Rattle.tqd_top.specs.SolveAnswer.{IsSolved, SolveGives, SolvesJob, solution_answer, solution_text}
 use Rattle.tqd_top.proofs.Saved.{steady_same}
 
 -- what a settled book decides of its best plan
@@ -111,15 +110,12 @@ solved_lost read old new file done Memory f s = (
 pub solves_nothing : (read : JobRead) (s : State) (file : Option Name) → SolveGives read s s file (Err Memory)
 solves_nothing read s file = (steady_same s, inl refl)
 
--- a job with a feasible purchase has a solution with a plan
-pub has_plan : (job : Job) (plan : Option (Plan × ℕ)) → HasPurchase job → IsSolution job plan → plan ≡ None → ⊥
-has_plan job None has none same = none has.0 has.1
-has_plan job (Some best) has solution same = not_none best same where
-  not_none : (best : Plan × ℕ) → ◌≡◌ {A = Option (Plan × ℕ)} (Some best) None → ⊥
-  not_none best e = cc
-
 -- the summary of a job that was made and solved
 pub summed : (seed goods suppliers : ℕ) (job : Job) (plan : Option (Plan × ℕ)) (best : Plan × ℕ) (text : Bytes) → IsGenJob seed goods suppliers job → IsSolution job plan → plan ≡ Some best
     → text ≡ summary_text seed goods suppliers best.1 → SumsUp seed goods suppliers text
 summed seed goods suppliers job plan best text made solution same text_is =
     record { job = job; is_made = made; plan = best.0; amount = best.1; least = subst (IsSolution job) same solution; text_is = text_is }
+
+-- a search that is finished is one of the same job
+pub finished_as : (job other : Job) (r : Result Finished NoMemory) → other ≡ job → IfOk r (IsFinished other) → IfOk r (IsFinished job)
+finished_as job other r same f = subst (λ (j : Job). IfOk r (IsFinished j)) same f

@@ -1,5 +1,5 @@
 -- Which file could not be read, in the words of a longer reading.
-use Rattle.std.proofs.Common.{◌≡◌, Bool, Option, None, Some, refl, sym, subst}
+use Rattle.std.proofs.Common.{◌≡◌, Bool, Option, Some, refl, sym, subst}
 use Rattle.std.specs.Prelude.{Ok}
 use Rattle.tqd_base.specs.World.{State, Name}
 use Rattle.tqd_base.specs.Calls.{Rests}

@@ -1,5 +1,5 @@
 -- The answer that the words and the files call for, and what is printed for it.
-use Rattle.std.specs.Prelude.{ℕ, ◌≡◌, ◌⊎◌, ◌≤◌, ◌++◌, Bool, List, [], ◌∷◌, length, take, codes, Option, Some, None, IsSome, Ok, Err}
+use Rattle.std.specs.Prelude.{ℕ, ◌≡◌, ◌⊎◌, ◌≤◌, Bool, List, length, take, Option, Some, IsSome, Ok, Err}
 use Rattle.tqd_base.specs.World.{World, State, Name, Bytes, Rose, print}
 use Rattle.plan_report.specs.declared.file.InputFile.{InputFile}
 use Rattle.plan_report.specs.declared.file.InputFile.TheVariants.{Tree as TreeFile}
@@ -10,10 +10,10 @@ use Rattle.plan_report.specs.NeedsText.{needs_text}
 use Rattle.plan_report.specs.FaultText.{unread_text}
 use Rattle.tqd_top.specs.declared.answer.Target.TheVariants.{Tree, Out}
 use Rattle.tqd_top.specs.declared.answer.Answer.{Answer}
-use Rattle.tqd_top.specs.declared.answer.Answer.TheVariants.{Solved, Infeasible, Accepted, AcceptedNone, Rejected, Listed, Words, BadInput, NotBuilt, ReadFault, WriteFault, Memory}
+use Rattle.tqd_top.specs.declared.answer.Answer.TheVariants.{Solved, Infeasible, Accepted, AcceptedNone, Rejected, Listed, Words, BadInput, ReadFault, WriteFault, Memory}
 use Rattle.tqd_top.specs.declared.reading.NeedsRead.{NeedsRead}
 use Rattle.tqd_top.specs.declared.reading.JobRead.{JobRead}
-use Rattle.tqd_top.specs.Words.{Asked, FilesNamed, ToSolve, ToCheck, ToNeed, ToMake, IsCheck, IsInput, IsMake, IsNeeds, IsNoForm, IsOtherForm, IsSolve, command_of}
+use Rattle.tqd_top.specs.Words.{Asked, FilesNamed, ToSolve, ToCheck, ToNeed, ToMake, IsCheck, IsInput, IsMake, IsNeeds, IsNoForm, IsSolve, command_of}
 use Rattle.tqd_top.specs.JobOf.{IsOnly, JobOf, NeedsOf, Outcome, Told, plainly}
 use Rattle.tree_checker.specs.declared.rejection.Verdict.{Verdict}
 use Rattle.tqd_top.specs.CheckAnswer.{IsLongTree, Shows, VerdictAnswer}
@@ -34,7 +34,6 @@ status_of (BadInput fault) = 3
 status_of (ReadFault file) = 5
 status_of (WriteFault target) = 6
 status_of Memory = 7
-status_of NotBuilt = 8
 
 -- the outcome that the files state, and where the desk tells them, no other
 abbrev pub IsJobOutcome : Bool → World → FilesNamed → Outcome JobRead → Type 0
@@ -80,8 +79,7 @@ pub record IsTreeFault (absent_is_empty : Bool) (w : World) (files : FilesNamed)
 
 -- the first fault of the files of a command
 abbrev pub IsFaultOf : Bool → World → Asked → Told → Type 0
-IsFaultOf absent_is_empty w (ToSolve files tree None) told = IsJobOutcome absent_is_empty w files (Err told)
-IsFaultOf absent_is_empty w (ToSolve files tree (Some workers)) told = ⊥
+IsFaultOf absent_is_empty w (ToSolve files tree workers) told = IsJobOutcome absent_is_empty w files (Err told)
 IsFaultOf absent_is_empty w (ToCheck files tree) told = IsJobOutcome absent_is_empty w files (Err told) ⊎ IsTreeFault absent_is_empty w files tree told
 IsFaultOf absent_is_empty w (ToNeed orders bill) told = IsNeedsOutcome absent_is_empty w orders bill (Err told)
 IsFaultOf absent_is_empty w (ToMake seed goods suppliers) told = ⊥
@@ -93,8 +91,7 @@ pub record IsBadInput (absent_is_empty : Bool) (old : World) (words : List Name)
 
 -- the first file of a command that could not be read
 abbrev pub IsUnreadBy : Bool → State → State → Asked → InputFile → Type 0
-IsUnreadBy absent_is_empty old new (ToSolve files tree None) file = IsUnread absent_is_empty old new files file
-IsUnreadBy absent_is_empty old new (ToSolve files tree (Some workers)) file = ⊥
+IsUnreadBy absent_is_empty old new (ToSolve files tree workers) file = IsUnread absent_is_empty old new files file
 IsUnreadBy absent_is_empty old new (ToCheck files tree) file = IsUnreadWithTree absent_is_empty old new files tree file
 IsUnreadBy absent_is_empty old new (ToNeed orders bill) file = IsUnreadBill absent_is_empty old new orders bill file
 IsUnreadBy absent_is_empty old new (ToMake seed goods suppliers) file = ⊥
@@ -134,7 +131,6 @@ IsFound absent_is_empty old new between words Listed text = (between ≡ old.wor
 IsFound absent_is_empty old new between words Words text = (between ≡ old.world) × IsNoForm words × (text ≡ usage_text)
 IsFound absent_is_empty old new between words (BadInput fault) text = (between ≡ old.world) × IsBadInput absent_is_empty old.world words fault text
 IsFound absent_is_empty old new between words (ReadFault file) text = (between ≡ old.world) × IsReadFault absent_is_empty old new words file text
-IsFound absent_is_empty old new between words NotBuilt text = (between ≡ old.world) × IsOtherForm words × (text ≡ codes "not built" ++ 10 ∷ [])
 IsFound absent_is_empty old new between words (WriteFault target) text = ⊥
 IsFound absent_is_empty old new between words Memory text = ⊥
 
@@ -166,7 +162,6 @@ HasCause absent_is_empty old new words Listed = IsPrinted absent_is_empty old ne
 HasCause absent_is_empty old new words Words = IsPrinted absent_is_empty old new words Words
 HasCause absent_is_empty old new words (BadInput fault) = IsPrinted absent_is_empty old new words (BadInput fault)
 HasCause absent_is_empty old new words (ReadFault file) = IsPrinted absent_is_empty old new words (ReadFault file)
-HasCause absent_is_empty old new words NotBuilt = IsPrinted absent_is_empty old new words NotBuilt
 HasCause absent_is_empty old new words (WriteFault Out) = Rose old.faults.printing new.faults.printing × IsCutOff absent_is_empty old new words
 HasCause absent_is_empty old new words (WriteFault Tree) = Rose old.faults.writing new.faults.writing × IsTreeLost absent_is_empty old.world new.world words
 HasCause absent_is_empty old new words Memory = (new.world ≡ old.world) ⊎ (IsTreeLost absent_is_empty old.world new.world words ⊎ IsCutOff absent_is_empty old new words)

@@ -9,9 +9,9 @@ use Rattle.plan_report.specs.declared.file.InputFile.TheVariants.{Tree as TreeFi
 use Rattle.plan_report.specs.declared.fault.FileFault.TheVariants.{Size}
 use Rattle.tqd_instance.specs.Plan.{units}
 use Rattle.tqd_instance.specs.Least.{Least, HasNoPurchase}
-use Rattle.tqd_top.specs.declared.answer.Target.TheVariants.{Tree, Out}
+use Rattle.tqd_top.specs.declared.answer.Target.TheVariants.{Out}
 use Rattle.tqd_top.specs.declared.answer.Answer.{Answer}
-use Rattle.tqd_top.specs.declared.answer.Answer.TheVariants.{Solved, Infeasible, Accepted, AcceptedNone, Rejected, Listed, Words, BadInput, NotBuilt, ReadFault, WriteFault, Memory}
+use Rattle.tqd_top.specs.declared.answer.Answer.TheVariants.{Solved, Infeasible, Accepted, AcceptedNone, Rejected, Listed, Words, BadInput, WriteFault, Memory}
 use Rattle.tqd_top.specs.declared.reading.NeedsRead.{NeedsRead}
 use Rattle.tqd_top.specs.declared.reading.JobRead.{JobRead}
 use Rattle.tqd_top.specs.Reads.{ReadsAs}
@@ -63,13 +63,6 @@ abbrev pub IsAnswerToMake : Answer → Type 0
 IsAnswerToMake Listed = Unit {0}
 IsAnswerToMake Memory = Unit {0}
 IsAnswerToMake _ = ⊥
-
--- words of a form that is not built, also where a count rises
-abbrev pub IsAnswerToOther : Answer → Type 0
-IsAnswerToOther NotBuilt = Unit {0}
-IsAnswerToOther (WriteFault Out) = Unit {0}
-IsAnswerToOther Memory = Unit {0}
-IsAnswerToOther _ = ⊥
 
 -- words of no form, also where a count rises: the fault or the want of memory comes before the text is printed
 abbrev pub IsAnswerToNoForm : Answer → Type 0

@@ -13,3 +13,4 @@ pub mod CheckAnswer
 pub mod Answers
 pub mod Complete
 pub mod Runs
+pub mod Headline

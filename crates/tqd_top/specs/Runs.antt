@@ -7,7 +7,7 @@ use Rattle.tree_checker.specs.declared.rejection.Verdict.{Verdict}
 use Rattle.tqd_top.specs.declared.answer.Lost.{Lost}
 use Rattle.tqd_top.specs.declared.answer.Lost.TheVariants.{Tree as LostTree, Memory as WantsMemory}
 use Rattle.plan_report.specs.FaultText.{unread_text}
-use Rattle.tqd_top.specs.declared.answer.Target.TheVariants.{Out}
+use Rattle.tqd_top.specs.declared.answer.Target.TheVariants.{Tree, Out}
 use Rattle.tqd_top.specs.declared.answer.Answer.{Answer}
 use Rattle.tqd_top.specs.declared.answer.Answer.TheVariants.{BadInput, ReadFault, WriteFault, Memory}
 use Rattle.tqd_top.specs.declared.answer.Found.{Found}
@@ -88,3 +88,9 @@ pub record PrintGives (old new : State) (answer : Answer) (text : Bytes) (result
   pub kept : new.failed_last ≡ old.failed_last
   pub never_fall : NeverFall old.faults new.faults
   pub cases : PrintAnswer old new answer text result
+
+-- what was found was printed; or there was nothing to print
+abbrev pub EndGives : State → State → Result Found Lost → Answer → Type 0
+EndGives old new (Ok found) result = PrintGives old new found.answer found.text.items result
+EndGives old new (Err LostTree) result = (result ≡ WriteFault Tree) × (new ≡ old)
+EndGives old new (Err WantsMemory) result = (result ≡ Memory) × (new ≡ old)

@@ -22,10 +22,10 @@ pub record FilesNamed : Type 0 where
   pub offers : Name
   pub terms : Option Name
 
--- to solve a job, with a tree or without, by so many workers, where their number is given; to check a tree against a job; to list the needs of
--- orders and a bill; to solve a made job with this seed and so many goods and suppliers
+-- to solve a job, with a tree or without, by so many workers; to check a tree against a job; to list the needs of orders and a bill;
+-- to solve a made job with this seed and so many goods and suppliers
 pub data Asked : Type 0 where
-  ToSolve : FilesNamed → Option Name → Option ℕ → Asked
+  ToSolve : FilesNamed → Option Name → ℕ → Asked
   ToCheck : FilesNamed → Name → Asked
   ToNeed : Name → Option Name → Asked
   ToMake : ℕ → ℕ → ℕ → Asked
@@ -47,18 +47,18 @@ files_of orders bill offers terms = do
   t ← optional_of terms
   Some (record { orders = o; bill = b; offers = f; terms = t })
 
--- ORDERS BILL OFFERS TERMS TREE of `solve`, and the workers
-unfoldable pub solve_of : Option FilesNamed → Name → Option ℕ → Option Asked
+-- ORDERS BILL OFFERS TERMS TREE of `solve`, by so many workers
+unfoldable pub solve_of : Option FilesNamed → Name → ℕ → Option Asked
 solve_of given tree workers = do
   files ← given
   t ← optional_of tree
   Some (ToSolve files t workers)
 
--- and N of `--workers`
+-- and N of `--workers`, from 1 to 64
 unfoldable pub workers_of : Option FilesNamed → Name → Name → Option Asked
 workers_of files tree workers = do
   n ← qty_of 1 WORKERS_MAX workers
-  solve_of files tree (Some n)
+  solve_of files tree n
 
 -- ORDERS BILL OFFERS TERMS TREE of `check`
 unfoldable pub check_of : Option FilesNamed → Name → Option Asked
@@ -82,7 +82,7 @@ make_of seed goods suppliers = do
   n ← qty_of 1 SUPPLIERS_MAX suppliers
   Some (ToMake s g n)
 
--- the commands of three, four, six and eight words
+-- the commands of three, four, six and eight words; without `--workers` there is one worker
 unfoldable pub three_of : Name → Name → Name → Option Asked
 three_of command orders bill = if same command (codes "needs") then needs_of orders bill else None
 
@@ -91,7 +91,7 @@ four_of command seed goods suppliers = if same command (codes "make") then make_
 
 unfoldable pub six_of : Name → Option FilesNamed → Name → Option Asked
 six_of command files tree =
-    if same command (codes "solve") then solve_of files tree None else
+    if same command (codes "solve") then solve_of files tree 1 else
     if same command (codes "check") then check_of files tree else None
 
 unfoldable pub eight_of : Name → Option FilesNamed → Name → Name → Name → Option Asked
@@ -116,9 +116,10 @@ asked (Check files tree) = ToCheck (files_named files) tree.now
 asked (Needs orders bill) = ToNeed orders.now (option_copied bill)
 asked (Make seed goods suppliers) = ToMake seed goods suppliers
 
--- solve ORDERS BILL OFFERS TERMS TREE
+-- solve ORDERS BILL OFFERS TERMS TREE, by any number of workers
 pub record IsSolve (words : List Name) (files : FilesNamed) (tree : Option Name) : Type 0 where
-  pub words_are : command_of words ≡ Some (ToSolve files tree None)
+  pub workers : ℕ
+  pub words_are : command_of words ≡ Some (ToSolve files tree workers)
 
 -- check ORDERS BILL OFFERS TERMS TREE
 pub record IsCheck (words : List Name) (files : FilesNamed) (tree : Name) : Type 0 where
@@ -131,19 +132,6 @@ pub record IsNeeds (words : List Name) (orders : Name) (bill : Option Name) : Ty
 -- make SEED GOODS SUPPLIERS
 pub record IsMake (words : List Name) (seed goods suppliers : ℕ) : Type 0 where
   pub words_are : command_of words ≡ Some (ToMake seed goods suppliers)
-
--- a command that is not built: a `solve` with `--workers N`
-abbrev pub IsUnbuilt : Asked → Type 0
-IsUnbuilt (ToSolve files tree None) = ⊥
-IsUnbuilt (ToSolve files tree (Some workers)) = Unit {0}
-IsUnbuilt (ToCheck files tree) = ⊥
-IsUnbuilt (ToNeed orders bill) = ⊥
-IsUnbuilt (ToMake seed goods suppliers) = ⊥
-
-pub record IsOtherForm (words : List Name) : Type 0 where
-  pub command : Asked
-  pub words_are : command_of words ≡ Some command
-  pub unbuilt : IsUnbuilt command
 
 -- the words are of no form
 abbrev pub IsNoForm : List Name → Type 0

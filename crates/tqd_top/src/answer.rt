@@ -29,8 +29,6 @@ pub enum Answer {
     Words,
     /// The files have this fault, the first in the order in which they are read.
     BadInput(FileFault),
-    /// The command or the files are of a form that is not understood yet.
-    NotBuilt,
     /// A file could not be read.
     ReadFault(InputFile),
     /// A file or the output could not be written.

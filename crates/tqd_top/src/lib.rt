@@ -1,26 +1,35 @@
 //! The commands of the program, from the bytes of the files to the text that is printed.
+//!
+//! `run` is the call that the program makes; `run_plain` does the same on the caller's thread alone. Both promise one
+//! record, `IsProgramRun` of specs/Headline.antt. Its first fields say how answer, status, output and files hang together;
+//! `solved`, `infeasible`, `accepted` and `accepted_none` say what these answers mean by the definitions of a least and of a
+//! feasible purchase and of the checker's verdict alone; the rest which answers come where no device fails.
 #![tactic(auto)]
 
 mod answer;
 mod check;
 #[cfg(test)]
-mod check_tests;
+mod check_rows;
+#[cfg(test)]
+mod failing_rows;
+#[cfg(test)]
+mod gate_tests;
 mod halt;
 mod input;
 mod job;
+#[cfg(test)]
+mod large_tests;
+#[cfg(test)]
+mod list_rows;
 mod make;
-#[cfg(test)]
-mod make_tests;
 mod needs;
-#[cfg(test)]
-mod needs_tests;
+mod program;
 mod reading;
-mod run;
 mod save;
 mod search;
 mod solve;
 #[cfg(test)]
-mod solve_tests;
+mod solve_rows;
 #[cfg(test)]
 mod tests;
 mod text;
@@ -29,5 +38,5 @@ mod word_tests;
 mod words;
 
 pub use answer::{Answer, Ended, Target};
-pub use run::run_plain;
+pub use program::{run, run_plain};
 pub use words::{Command, JobFiles, read_words};

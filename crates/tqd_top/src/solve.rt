@@ -1,7 +1,9 @@
 //! The command `solve`.
-ghost use Rattle.std.specs.Prelude.{◌≡◌, List, None, Some};
+ghost use Rattle.std.specs.Prelude.{ℕ, ◌≡◌, ◌≤◌, List, Some};
 ghost use Rattle.std.specs.Option.{option_copied};
+ghost use Rattle.std.specs.Result.{ForOk};
 ghost use Rattle.tqd_base.specs.World.{IsIdle, Name};
+ghost use Rattle.tqd_top.specs.Certificate.{IsFinished};
 ghost use Rattle.tqd_top.specs.ReadBook.{IsReadJob};
 ghost use Rattle.tqd_top.specs.SolveAnswer.{SolveGives};
 ghost use Rattle.tqd_top.specs.Words.{ToSolve, command_of, files_named};
@@ -11,24 +13,30 @@ use crate::answer::{Found, Lost};
 use crate::job::read_job;
 use crate::reading::JobRead;
 use crate::save::save_given;
-use crate::search::{search, solution_answer, solution_text};
+use crate::search::{search, search_by, solution_answer, solution_text};
 use crate::text::{found_halt, or_lost};
 use crate::words::JobFiles;
+use search_book::Finished;
+use search_run::Gate;
 use std::alloc::Global;
-use tqd_base::Desk;
+use std::sync::Wait;
+use std::thread::Threads;
+use tqd_base::{Desk, Memory};
 
-// The answer for a job. Its text is made first, and then the tree is saved where a file is given for it.
+// The answer for a job that was searched. Its text is made first, and then the tree is saved where a file is given for it.
 fn solve_job<D: Desk>(
     alloc: Global,
     desk: &mut D,
     read: &JobRead,
     tree: Option<&str>,
+    searched: Result<Finished, Memory>,
 ) -> Result<Found, Lost>
     requires idle { IsIdle (D.state desk.old).world }
     requires facts { IsReadJob read.now }
+    requires finished { ForOk searched (IsFinished read.now.job) }
     ensures { SolveGives read.now (D.state desk.old) (D.state desk.new) (option_copied tree.entry) result }
 {
-    let done = search(alloc, &read.job)?;
+    let done = searched?;
     let text = solution_text(alloc, read, &done.plan)?;
     save_given(alloc, &read.job, &done, desk, tree)?;
     Ok(Found {
@@ -45,11 +53,39 @@ pub(crate) fn find_solve<D: Desk>(
     tree: Option<&str>,
 ) -> Result<Found, Lost>
     requires { IsIdle (D.state desk.old).world }
-    ensures { (words : List Name) → command_of words ≡ Some (ToSolve (files_named files.now) (option_copied tree.entry) None)
+    ensures { (words : List Name) (workers : ℕ) → command_of words ≡ Some (ToSolve (files_named files.now) (option_copied tree.entry) workers)
         → Finds D.absent_is_empty (D.state desk.old) (D.state desk.new) words result }
 {
     match read_job(alloc, desk, files) {
-        Ok(read) => solve_job(alloc, desk, &read, tree),
+        Ok(read) => {
+            let searched = search(alloc, &read.job);
+            solve_job(alloc, desk, &read, tree, searched)
+        }
+        Err(halt) => or_lost(found_halt(alloc, halt)),
+    }
+}
+
+// The same, found by 1 to 64 workers, each of which passes the gate before each box.
+pub(crate) fn find_solve_by<R: Threads + Wait + Sync, D: Desk, G: Gate + Sync>(
+    rt: &R,
+    alloc: Global,
+    desk: &mut D,
+    files: &JobFiles<'_>,
+    tree: Option<&str>,
+    workers: u32,
+    gate: &G,
+) -> Result<Found, Lost>
+    requires idle { IsIdle (D.state desk.old).world }
+    requires some { 1 ≤ workers }
+    requires few { workers ≤ 64 }
+    ensures { (words : List Name) (asked : ℕ) → command_of words ≡ Some (ToSolve (files_named files.now) (option_copied tree.entry) asked)
+        → Finds D.absent_is_empty (D.state desk.old) (D.state desk.new) words result }
+{
+    match read_job(alloc, desk, files) {
+        Ok(read) => {
+            let searched = search_by(rt, alloc, &read.job, workers, gate);
+            solve_job(alloc, desk, &read, tree, searched)
+        }
         Err(halt) => or_lost(found_halt(alloc, halt)),
     }
 }

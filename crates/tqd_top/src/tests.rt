@@ -1,14 +1,42 @@
-ghost use Rattle.std.specs.Prelude.{IfOk};
+//! Runs of words on a desk in memory, by `run_plain` and by `run`.
+ghost use Rattle.std.specs.Prelude.{◌≤◌, IfOk};
 ghost use Rattle.tqd_base.specs.World.{IsIdle};
 ghost use Rattle.tqd_base.specs.MemoryState.{memory_state};
-ghost use Rattle.tqd_base.specs.SureState.{sure_state};
 
-use crate::run_plain;
+use crate::check_rows::{FORMS, TREES};
+use crate::failing_rows::FAILING;
+use crate::list_rows::{NEEDS, WORDS};
+use crate::solve_rows::{EDGES, FAULTS, FILES, ONE_GOOD, TWO_GOODS, WORKERS};
+use crate::{run, run_plain};
+use search_run::NoGate;
 use std::alloc::Global;
+use std::process::Abort;
+use std::sync::Wait;
 use std::test::Fail;
-use tqd_base::{DeskCall, Memory, MemoryDesk, SureDesk};
+use std::thread::Threads;
+use tqd_base::{DeskCall, Memory, MemoryDesk};
 
-pub(crate) const OFFERS: &str = "supplier,from,part,price\nA,1,r,0.10\nA,100,r,0.08\n";
+/// Lines of words that are run one after the other on a desk with these files, each by its name and its text: each ends with
+/// the status, and together they print the output.
+#[derive(Clone, Copy)]
+pub(crate) struct Row {
+    pub(crate) files: &'static [(&'static str, &'static str)],
+    pub(crate) lines: &'static [&'static str],
+    pub(crate) status: u8,
+    pub(crate) output: &'static str,
+}
+
+/// A line that is run on a desk whose nth call of a kind fails, and what the file `tree` has then.
+#[derive(Clone, Copy)]
+pub(crate) struct FailingRow {
+    pub(crate) call: DeskCall,
+    pub(crate) nth: u64,
+    pub(crate) files: &'static [(&'static str, &'static str)],
+    pub(crate) line: &'static str,
+    pub(crate) status: u8,
+    pub(crate) output: &'static str,
+    pub(crate) tree: &'static str,
+}
 
 // The words of a command line.
 pub(crate) fn words_of(alloc: Global, line: &str) -> Result<Vec<String>, Fail> {
@@ -37,119 +65,122 @@ pub(crate) fn set(desk: &mut MemoryDesk, name: &str, text: &str) -> Result<(), M
     desk.set_file(name, text.as_bytes())
 }
 
-// Runs the words of a line, and gives the status.
-pub(crate) fn ran(alloc: Global, desk: &mut MemoryDesk, line: &str) -> Result<u8, Fail>
+// A desk with these files.
+fn desk_with(alloc: Global, files: &[(&str, &str)]) -> Result<MemoryDesk, Fail>
+    ensures { IfOk result (λ desk. IsIdle (memory_state desk).world) }
+{
+    let mut desk = empty_desk(alloc)?;
+    for file in files {
+        let (name, text) = *file;
+        set(&mut desk, name, text).map_err(|_| "memory")?;
+    }
+    Ok(desk)
+}
+
+// Runs the words of a line, on the caller's thread alone or not, and gives the status.
+pub(crate) fn ran<R: Threads + Wait + Sync>(
+    rt: &R,
+    alloc: Global,
+    plain: bool,
+    desk: &mut MemoryDesk,
+    line: &str,
+) -> Result<u8, Fail>
     requires { IsIdle (memory_state desk.old).world }
     ensures { IsIdle (memory_state desk.new).world }
 {
     let words = words_of(alloc, line)?;
-    Ok(run_plain(alloc, &words, desk).status)
+    let ended = if plain {
+        run_plain(alloc, &words, desk)
+    } else {
+        run(rt, alloc, &words, desk, &NoGate)
+    };
+    Ok(ended.status)
 }
 
-// A desk with a file of orders `o` and a file of offers `f`.
-fn desk_with(alloc: Global, orders: &str, offers: &str) -> Result<MemoryDesk, Fail>
-    ensures { IfOk result (λ desk. IsIdle (memory_state desk).world) }
+// Runs the lines of a row, whose files are read in pieces of so many bytes.
+fn check_lines<R: Threads + Wait + Abort + Sync>(
+    rt: &R,
+    alloc: Global,
+    plain: bool,
+    row: &Row,
+    piece: usize,
+) -> Result<(), Fail>
+    requires { 1 ≤ piece }
 {
-    let mut desk = empty_desk(alloc)?;
-    set(&mut desk, "o", orders).map_err(|_| "memory")?;
-    set(&mut desk, "f", offers).map_err(|_| "memory")?;
-    Ok(desk)
-}
-
-const USAGE: &str = "usage: tqd solve ORDERS BILL OFFERS TERMS TREE [--workers N]
-       tqd check ORDERS BILL OFFERS TERMS TREE
-       tqd needs ORDERS BILL
-       tqd make SEED GOODS SUPPLIERS
-";
-
-#[test]
-fn answers_other_words(rt: HostRuntime) -> Result<(), Fail> {
-    let alloc = rt.alloc();
-    let cases = [
-        ("solve o b f t - --workers 2", 8, "not built\n"),
-        ("solve o - f - - --workers 1", 8, "not built\n"),
-        ("solve o - f", 2, USAGE),
-        ("solve o - f - tree --workers 65", 2, USAGE),
-        ("check o - f - -", 2, USAGE),
-        ("", 2, USAGE),
-    ];
-    for (line, status, text) in cases {
-        // No file is there, so opening one would fail.
-        let mut desk = empty_desk(alloc)?;
-        assert_eq!(rt; ran(alloc, &mut desk, line)?, status, "at {line}");
-        assert_eq!(rt; desk.output(), text.as_bytes(), "at {line}");
+    let mut desk = desk_with(alloc, row.files)?;
+    desk.piece(piece);
+    for line in row.lines {
+        let status = ran(rt, alloc, plain, &mut desk, line)?;
+        assert_eq!(rt; status, row.status, "at {line}");
     }
+    assert_eq!(rt; desk.output(), row.output.as_bytes());
     Ok(())
 }
 
-#[test]
-fn answers_no_words(rt: HostRuntime) -> Result<(), Fail> {
-    let alloc = rt.alloc();
-    let mut desk = empty_desk(alloc)?;
-    let ended = run_plain(alloc, &[], &mut desk);
-    assert_eq!(rt; ended.status, 2);
-    assert_eq!(rt; desk.output(), USAGE.as_bytes());
-    Ok(())
-}
-
-#[test]
-fn names_the_file_that_fails(rt: HostRuntime) -> Result<(), Fail> {
-    let alloc = rt.alloc();
-    let cases = [
-        (DeskCall::Open, 1, 5, "cannot read orders\n"),
-        (DeskCall::Open, 2, 5, "cannot read offers\n"),
-        (DeskCall::Take, 1, 5, "cannot read orders\n"),
-        (DeskCall::Take, 2, 5, "cannot read orders\n"),
-        (DeskCall::Take, 3, 5, "cannot read offers\n"),
-        (DeskCall::Take, 4, 5, "cannot read offers\n"),
-        // half of the 72 bytes of the text
-        (
-            DeskCall::Out,
-            1,
-            6,
-            "solved\t8.000000\nsupplier\tA\t100\t100\t8",
-        ),
-    ];
-    for (call, nth, status, text) in cases {
-        let mut desk = desk_with(alloc, "product,quantity\nr,100\n", OFFERS)?;
-        desk.fail(call, nth).map_err(|_| "memory")?;
-        assert_eq!(rt;
-            ran(alloc, &mut desk, "solve o - f - -")?,
-            status,
-            "at {nth}"
-        );
-        assert_eq!(rt; desk.output(), text.as_bytes(), "at {nth}");
-    }
-    Ok(())
-}
-
-#[test]
-fn reads_an_absent_file(rt: HostRuntime) -> Result<(), Fail> {
-    let alloc = rt.alloc();
-    let mut desk = empty_desk(alloc)?;
-    set(&mut desk, "o", "product,quantity\nr,100\n").map_err(|_| "memory")?;
-    assert_eq!(rt; ran(alloc, &mut desk, "solve o - f - -")?, 5);
-    assert_eq!(rt; desk.output(), b"cannot read offers\n".as_slice());
-    Ok(())
-}
-
-// A desk without files, which reads names that are not there as empty.
-fn sure_desk(alloc: Global) -> Result<SureDesk, Fail>
-    ensures { IfOk result (λ desk. IsIdle (sure_state desk).world) }
+// Runs rows by both calls.
+fn check_rows<R: Threads + Wait + Abort + Sync>(
+    rt: &R,
+    alloc: Global,
+    rows: &[Row],
+    piece: usize,
+) -> Result<(), Fail>
+    requires { 1 ≤ piece }
 {
-    match SureDesk::new(alloc) {
-        Ok(desk) => Ok(desk),
-        Err(_) => Err("memory".into()),
+    for row in rows {
+        check_lines(rt, alloc, true, row, piece)?;
+        check_lines(rt, alloc, false, row, piece)?;
     }
+    Ok(())
 }
 
 #[test]
-fn takes_an_absent_file_for_an_empty_one(rt: HostRuntime) -> Result<(), Fail> {
-    let alloc = rt.alloc();
-    let words = words_of(alloc, "solve o - f - -")?;
-    let mut desk = sure_desk(alloc)?;
-    let ended = run_plain(alloc, &words, &mut desk);
-    assert_eq!(rt; ended.status, 3);
-    assert_eq!(rt; desk.output(), b"bad input: orders: no header\n".as_slice());
+fn solves_jobs(rt: HostRuntime) -> Result<(), Fail> {
+    check_rows(&rt, rt.alloc(), &ONE_GOOD, 65_536)?;
+    check_rows(&rt, rt.alloc(), &TWO_GOODS, 65_536)?;
+    check_rows(&rt, rt.alloc(), &EDGES, 65_536)?;
+    check_rows(&rt, rt.alloc(), &WORKERS, 65_536)
+}
+
+#[test]
+fn reads_files(rt: HostRuntime) -> Result<(), Fail> {
+    check_rows(&rt, rt.alloc(), &FILES, 65_536)?;
+    check_rows(&rt, rt.alloc(), &FAULTS, 65_536)
+}
+
+#[test]
+fn checks_trees(rt: HostRuntime) -> Result<(), Fail> {
+    check_rows(&rt, rt.alloc(), &TREES, 65_536)?;
+    check_rows(&rt, rt.alloc(), &TREES, 1)?;
+    check_rows(&rt, rt.alloc(), &FORMS, 65_536)
+}
+
+#[test]
+fn lists_needs_and_made_jobs(rt: HostRuntime) -> Result<(), Fail> {
+    check_rows(&rt, rt.alloc(), &NEEDS, 65_536)?;
+    check_rows(&rt, rt.alloc(), &WORDS, 65_536)
+}
+
+// Runs the line of a row where a call fails.
+fn check_failing<R: Threads + Wait + Abort + Sync>(
+    rt: &R,
+    alloc: Global,
+    plain: bool,
+    row: &FailingRow,
+) -> Result<(), Fail> {
+    let mut desk = desk_with(alloc, row.files)?;
+    desk.fail(row.call, row.nth).map_err(|_| "memory")?;
+    let status = ran(rt, alloc, plain, &mut desk, row.line)?;
+    assert_eq!(rt; status, row.status, "at {}", row.line);
+    assert_eq!(rt; desk.output(), row.output.as_bytes());
+    assert_eq!(rt; desk.file("tree").unwrap_or(b""), row.tree.as_bytes());
+    Ok(())
+}
+
+#[test]
+fn names_what_fails(rt: HostRuntime) -> Result<(), Fail> {
+    for row in &FAILING {
+        check_failing(&rt, rt.alloc(), true, row)?;
+        check_failing(&rt, rt.alloc(), false, row)?;
+    }
     Ok(())
 }

@@ -1,5 +1,5 @@
 //! Answers whose text is fixed or told by a halt.
-ghost use Rattle.std.specs.Prelude.{◌≡◌, ◌∷◌, ◌++◌, IfOk, OnOk, []};
+ghost use Rattle.std.specs.Prelude.{◌≡◌};
 ghost use Rattle.tqd_top.specs.Runs.{HaltFound, or_lost};
 
 use crate::answer::{Answer, Found, Lost};
@@ -7,17 +7,6 @@ use crate::halt::Halt;
 use plan_report::unread_text;
 use std::alloc::Global;
 use tqd_base::Memory;
-
-// An answer whose text is one line.
-pub(crate) fn found_line(alloc: Global, answer: Answer, line: &str) -> Result<Found, Memory>
-    ensures answer { IfOk result (λ found. found.answer ≡ answer) }
-    ensures text { IfOk result (λ found. found.text.items ≡ line.now ++ 10 ∷ []) }
-{
-    let mut text = Vec::new(alloc);
-    text.extend_from_slice(line.as_bytes())?;
-    text.push(b'\n')?;
-    Ok(Found { answer, text })
-}
 
 // The answer where the files gave no value.
 pub(crate) fn found_halt(alloc: Global, halt: Halt) -> Result<Found, Memory>

@@ -12,11 +12,11 @@ const fn files(bill: Option<&'static str>, terms: Option<&'static str>) -> JobFi
     }
 }
 
-// A `solve` of them, with the number of workers or without.
+// A `solve` of them, by so many workers.
 const fn solve(
     files: JobFiles<'static>,
     tree: Option<&'static str>,
-    workers: Option<u64>,
+    workers: u64,
 ) -> Command<'static> {
     Command::Solve {
         files,
@@ -29,18 +29,18 @@ const fn solve(
 fn reads_words_on_jobs(rt: HostRuntime) -> Result<(), Fail> {
     let alloc = rt.alloc();
     let cases = [
-        ("solve o - f - -", solve(files(None, None), None, None)),
+        ("solve o - f - -", solve(files(None, None), None, 1)),
         (
             "solve o b f t tree",
-            solve(files(Some("b"), Some("t")), Some("tree"), None),
+            solve(files(Some("b"), Some("t")), Some("tree"), 1),
         ),
         (
             "solve o b f - - --workers 64",
-            solve(files(Some("b"), None), None, Some(64)),
+            solve(files(Some("b"), None), None, 64),
         ),
         (
             "solve o - f t o --workers 007",
-            solve(files(None, Some("t")), Some("o"), Some(7)),
+            solve(files(None, Some("t")), Some("o"), 7),
         ),
         (
             "check o - f t tree",

@@ -21,12 +21,11 @@ pub struct JobFiles<'a> {
 /// What the words of a command line ask for.
 #[derive(Clone, Copy, Debug, PartialEq, Eq)]
 pub enum Command<'a> {
-    /// A least purchase, with the file that the tree goes to, if any, and with the number of workers, 1 to 64, if it is
-    /// given.
+    /// A least purchase, with the file that the tree goes to, if any, and by 1 to 64 workers.
     Solve {
         files: JobFiles<'a>,
         tree: Option<&'a str>,
-        workers: Option<u64>,
+        workers: u64,
     },
     /// Whether the file of a tree certifies an answer to the job.
     Check {
@@ -107,12 +106,12 @@ fn job_files<'a>(
     })
 }
 
-// A `solve` of these files and this TREE, by so many workers, if their number is given.
+// A `solve` of these files and this TREE, by so many workers.
 #[tactic(auto, unfolding(crate::specs::Words::solve_of))]
 fn solve_command<'a>(
     files: Option<JobFiles<'a>>,
     tree: &'a str,
-    workers: Option<u64>,
+    workers: u64,
 ) -> Option<Command<'a>>
     ensures { option_map asked result ≡ solve_of (option_map files_named files.entry) tree.now workers }
 {
@@ -135,7 +134,7 @@ fn workers_command<'a>(
     ensures { option_map asked result ≡ workers_of (option_map files_named files.entry) tree.now workers.now }
 {
     let workers = read_qty(workers.as_bytes(), 1, WORKERS_MAX)?;
-    solve_command(files, tree, Some(workers))
+    solve_command(files, tree, workers)
 }
 
 // A `check` of these files and this TREE.
@@ -203,7 +202,7 @@ fn of_six<'a>(command: &str, files: Option<JobFiles<'a>>, tree: &'a str) -> Opti
     ensures { option_map asked result ≡ six_of command.now (option_map files_named files.entry) tree.now }
 {
     if is_word(command, "solve") {
-        solve_command(files, tree, None)
+        solve_command(files, tree, 1)
     } else if is_word(command, "check") {
         check_command(files, tree)
     } else {

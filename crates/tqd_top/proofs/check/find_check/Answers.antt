@@ -1,5 +1,4 @@
 -- The text of the tree shows something of the job, or the reading halted.
-use Rattle.tqd_top.specs.Words.{files_named}
 use Rattle.tqd_top.proofs.Finding.{check_lists, halt_lists}
 use Rattle.tqd_top.proofs.check.find_check.Goals as goal
 

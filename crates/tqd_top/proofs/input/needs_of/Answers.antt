@@ -2,7 +2,7 @@
 use Rattle.std.proofs.Common.{List, [], refl, subst}
 use Rattle.std.specs.Prelude.{Ok, Err}
 use Rattle.tqd_base.specs.World.{Bytes}
-use Rattle.plan_report.specs.FaultText.{IsFaultNamed, fault_text}
+use Rattle.plan_report.specs.FaultText.{fault_text}
 use Rattle.plan_report.specs.declared.fault.FileFault.TheVariants.{Explode as InExplosion}
 use Rattle.tqd_top.specs.JobOf.{told_by_bill}
 use Rattle.tqd_top.specs.Steps.{HaltsAt}

@@ -1,6 +1,6 @@
--- A settled book has the solution and its tree.
-use Rattle.tqd_top.proofs.Solutions.{finished}
+-- The book is one of the job.
+use Rattle.tqd_top.proofs.Solutions.{finished_as}
 use Rattle.tqd_top.proofs.search.search.Goals as goal
 
 pub returns : goal.returns
-returns c = finished _ _ _ c.in_ok-book.ensures.job c.finish.ensures.decided c.finish.ensures.plan c.finish.ensures.plan_stands c.finish.ensures.root c.finish.ensures.tree
+returns c = finished_as _ _ _ c.in_ok-book.ensures.job c.finish.ensures

@@ -11,7 +11,7 @@ pub solve_job-requires-clause-facts : goal.solve_job-requires-clause-facts
 solve_job-requires-clause-facts g c = job_facts _ _ _ _ c.in-Ok.ensures.1.states
 
 pub returns-in-Ok : goal.returns-in-Ok
-returns-in-Ok g c = λ words are. solve_finds _ _ _ _ _ _ _ _ _ are c.in-Ok.ensures.0 c.in-Ok.ensures.1 c.solve_job.ensures
+returns-in-Ok g c = λ words workers are. solve_finds _ _ _ _ _ _ _ workers _ _ are c.in-Ok.ensures.0 c.in-Ok.ensures.1 c.solve_job.ensures
 
 pub returns-in-Err : goal.returns-in-Err
-returns-in-Err g c = λ words are. rw c.or_lost.ensures (lists_find _ _ _ _ _ (halt_lists _ _ _ _ _ _ _ are (solve_halts _ _ _ _ (option_copied c.args.tree) _ c.in-Err.ensures) c.found_halt.ensures))
+returns-in-Err g c = λ words workers are. rw c.or_lost.ensures (lists_find _ _ _ _ _ (halt_lists _ _ _ _ _ _ _ are (solve_halts _ _ _ _ (option_copied c.args.tree) workers _ c.in-Err.ensures) c.found_halt.ensures))

@@ -1,0 +1,225 @@
+//! Files that are made, and made jobs.
+ghost use Rattle.std.specs.Prelude.{IfOk};
+ghost use Rattle.tqd_base.specs.World.{IsIdle};
+ghost use Rattle.tqd_base.specs.MemoryState.{memory_state};
+ghost use Rattle.tqd_base.specs.SureState.{sure_state};
+ghost use Rattle.tqd_top.specs.Certificate.{IsFinished};
+
+use crate::check::check_file;
+use crate::save::save_given;
+use crate::search::search;
+use crate::tests::{empty_desk, ran, set, words_of};
+use crate::{run, run_plain};
+use order_gen::make_job;
+use plan_report::{summary_text, usage_text};
+use search_book::Finished;
+use search_run::NoGate;
+use std::alloc::Global;
+use std::process::Abort;
+use std::sync::Wait;
+use std::test::Fail;
+use std::thread::Threads;
+use tqd_base::{DeskCall, SureDesk};
+use tqd_instance::Job;
+use tree_checker::Verdict;
+
+// Runs a line on a desk with these orders `o` and this file `f`, by both calls.
+fn check_files<R: Threads + Wait + Abort + Sync>(
+    rt: &R,
+    alloc: Global,
+    orders: &str,
+    other: &str,
+    line: &str,
+    status: u8,
+    text: &str,
+) -> Result<(), Fail> {
+    for plain in [true, false] {
+        let mut desk = empty_desk(alloc)?;
+        set(&mut desk, "o", orders).map_err(|_| "memory")?;
+        set(&mut desk, "f", other).map_err(|_| "memory")?;
+        assert_eq!(rt;
+            ran(rt, alloc, plain, &mut desk, line)?,
+            status,
+            "at {line}"
+        );
+        assert_eq!(rt; desk.output(), text.as_bytes(), "at {line}");
+    }
+    Ok(())
+}
+
+const OFFERS: &str = "supplier,from,part,price\nA,1,r,0.10\nA,100,r,0.08\n";
+
+#[test]
+fn refuses_too_many_goods(rt: HostRuntime) -> Result<(), Fail> {
+    let alloc = rt.alloc();
+    let mut orders = String::from_str(alloc, "product,quantity\n")?;
+    for n in 0..1_001 {
+        let line = format!(in alloc; "p{n},1\n")?;
+        orders.push_str(&line)?;
+    }
+    let text = "bad input: job: 1001 goods, at most 1000\n";
+    check_files(&rt, alloc, &orders, OFFERS, "solve o - f - -", 3, text)
+}
+
+#[test]
+fn refuses_a_file_that_is_too_long(rt: HostRuntime) -> Result<(), Fail> {
+    let alloc = rt.alloc();
+    let long = "x".repeat(alloc, 16_777_217)?;
+    let text = "bad input: orders: more than 16777216 bytes\n";
+    check_files(&rt, alloc, &long, OFFERS, "solve o - f - -", 3, text)
+}
+
+// The lines of a chain of parts p0, p1, .., each with so many units of the next.
+fn chain(alloc: Global, lines: u32, units: u32) -> Result<String, Fail> {
+    let mut bill = String::from_str(alloc, "assembly,part,quantity\n")?;
+    for n in 0..lines {
+        let next = n + 1;
+        let line = format!(in alloc; "p{n},p{next},{units}\n")?;
+        bill.push_str(&line)?;
+    }
+    Ok(bill)
+}
+
+/// The lines of a chain, the units, a last line, the status, and what is printed.
+const CHAINS: [(u32, u32, &str, u8, &str); 4] = [
+    (19_999, 1, "", 0, "need\tp19999\t1\n"),
+    (
+        19_999,
+        1,
+        "p19999,p0,1\n",
+        3,
+        "bad input: bill: circle through p0\n",
+    ),
+    (
+        27,
+        2,
+        "",
+        3,
+        "bad input: bill: need of p27 above 100000000\n",
+    ),
+    (26, 2, "", 0, "need\tp26\t67108864\n"),
+];
+
+#[test]
+fn follows_long_chains(rt: HostRuntime) -> Result<(), Fail> {
+    let alloc = rt.alloc();
+    let orders = "product,quantity\np0,1\n";
+    for (lines, units, last, status, text) in CHAINS {
+        let mut bill = chain(alloc, lines, units)?;
+        bill.push_str(last)?;
+        check_files(&rt, alloc, orders, &bill, "needs o f", status, text)?;
+    }
+    Ok(())
+}
+
+// Whether a run writes the beginning of the tree to a file, where a call may fail.
+fn check_begun<R: Threads + Wait + Abort + Sync>(
+    rt: &R,
+    alloc: Global,
+    plain: bool,
+    failing: Option<DeskCall>,
+    name: &str,
+    status: u8,
+) -> Result<(), Fail> {
+    let mut desk = empty_desk(alloc)?;
+    set(&mut desk, "o", "product,quantity\nr,100\n").map_err(|_| "memory")?;
+    set(&mut desk, "f", OFFERS).map_err(|_| "memory")?;
+    if let Some(call) = failing {
+        desk.fail(call, 1).map_err(|_| "memory")?;
+    }
+    let line = format!(in alloc; "solve o - f - {name}")?;
+    assert_eq!(rt;
+        ran(rt, alloc, plain, &mut desk, &line)?,
+        status,
+        "at {name}"
+    );
+    let tree = desk.file(name).unwrap_or(b"");
+    assert!(rt;
+        tree.starts_with(b"tqd-tree 1\nplan 8000000 1\nbuy 0 0 100\n"),
+        "at {name}"
+    );
+    assert_eq!(rt; desk.output().is_empty(), status == 6, "at {name}");
+    Ok(())
+}
+
+#[test]
+fn writes_over_the_orders_and_before_closing(rt: HostRuntime) -> Result<(), Fail> {
+    for plain in [true, false] {
+        check_begun(&rt, rt.alloc(), plain, None, "o", 0)?;
+        check_begun(&rt, rt.alloc(), plain, Some(DeskCall::Close), "tree", 6)?;
+    }
+    Ok(())
+}
+
+#[test]
+fn answers_no_words(rt: HostRuntime) -> Result<(), Fail> {
+    let alloc = rt.alloc();
+    let text = usage_text(alloc).map_err(|_| "memory")?;
+    let mut desk = empty_desk(alloc)?;
+    assert_eq!(rt; run_plain(alloc, &[], &mut desk).status, 2);
+    assert_eq!(rt; desk.output(), text.as_slice());
+    let mut other = empty_desk(alloc)?;
+    assert_eq!(rt; run(&rt, alloc, &[], &mut other, &NoGate).status, 2);
+    assert_eq!(rt; other.output(), text.as_slice());
+    Ok(())
+}
+
+// A desk without files, which reads names that are not there as empty.
+fn sure_desk(alloc: Global) -> Result<SureDesk, Fail>
+    ensures { IfOk result (λ desk. IsIdle (sure_state desk).world) }
+{
+    match SureDesk::new(alloc) {
+        Ok(desk) => Ok(desk),
+        Err(_) => Err("memory".into()),
+    }
+}
+
+#[test]
+fn takes_an_absent_file_for_an_empty_one(rt: HostRuntime) -> Result<(), Fail> {
+    let alloc = rt.alloc();
+    let words = words_of(alloc, "solve o - f - -")?;
+    let mut desk = sure_desk(alloc)?;
+    assert_eq!(rt; run_plain(alloc, &words, &mut desk).status, 3);
+    assert_eq!(rt; desk.output(), b"bad input: orders: no header\n".as_slice());
+    let mut other = sure_desk(alloc)?;
+    assert_eq!(rt; run(&rt, alloc, &words, &mut other, &NoGate).status, 3);
+    assert_eq!(rt; other.output(), desk.output());
+    Ok(())
+}
+
+// What a search of a job finds.
+fn found(alloc: Global, job: &Job) -> Result<Finished, Fail>
+    ensures { IfOk result (IsFinished job.now) }
+{
+    match search(alloc, job) {
+        Ok(done) => Ok(done),
+        Err(_) => Err("memory".into()),
+    }
+}
+
+// The cost that a search of a job finds, whose tree is saved and then accepted.
+fn cost_of(rt: &impl Abort, alloc: Global, job: &Job) -> Result<u128, Fail> {
+    let done = found(alloc, job)?;
+    let mut desk = empty_desk(alloc)?;
+    save_given(alloc, job, &done, &mut desk, Some("tree")).map_err(|_| "not saved")?;
+    let verdict = check_file(alloc, job, &mut desk, "tree").map_err(|_| "not read")?;
+    let Some((_, cost)) = done.plan else {
+        return Err("no purchase".into());
+    };
+    assert_eq!(rt; verdict, Verdict::Optimal(cost));
+    Ok(cost)
+}
+
+#[test]
+fn sums_up_a_made_job(rt: HostRuntime) -> Result<(), Fail> {
+    let alloc = rt.alloc();
+    let job = make_job(alloc, 7, 200, 4).map_err(|_| "memory")?;
+    let cost = cost_of(&rt, alloc, &job)?;
+    let text = summary_text(alloc, 7, 200, 4, cost).map_err(|_| "memory")?;
+    for plain in [true, false] {
+        let mut desk = empty_desk(alloc)?;
+        assert_eq!(rt; ran(&rt, alloc, plain, &mut desk, "make 7 200 4")?, 0);
+        assert_eq!(rt; desk.output(), text.as_slice());
+    }
+    Ok(())
+}
