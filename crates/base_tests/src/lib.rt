@@ -8,6 +8,8 @@ mod circulations;
 #[cfg(test)]
 mod desks;
 #[cfg(test)]
+mod nets;
+#[cfg(test)]
 mod numbers;
 #[cfg(test)]
 mod prices;
