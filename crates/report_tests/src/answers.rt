@@ -1,7 +1,8 @@
 //! The texts of plans, of needs and of answers of one line.
 
-ghost use Rattle.std.specs.Prelude.{IfOk};
-ghost use Rattle.tqd_instance.specs.Plan.{IsSizedFor};
+ghost use Rattle.std.specs.Prelude.{◌<◌, All, length, IfOk};
+ghost use Rattle.tqd_instance.specs.Plan.{units, IsSizedFor};
+ghost use Rattle.tqd_instance.specs.Feasible.{Feasible};
 
 use bom_explode::explode;
 use bom_reader::{Bill, BillFault, NameList, no_bill, read_bill, read_orders};
@@ -245,6 +246,25 @@ fn plan_of(
     Ok(plan)
 }
 
+/// Asserts that each good has a name.
+fn assert_named(rt: &impl Abort, names: &NameList, goods: &[u32])
+    ensures { All (λ n. n < length names.now) goods.now }
+{
+    let count = names.len();
+    assert!(rt; goods.iter().all(|n| (*n as usize) < count));
+}
+
+/// Asserts that a plan is feasible.
+fn assert_feasible(rt: &impl Abort, job: &Job, plan: &Plan)
+    requires { IsSizedFor job.now plan.now }
+    ensures { Feasible job.now (units plan.now) }
+{
+    match job.standing(plan) {
+        Standing::Feasible(_) => {}
+        _ => panic!(rt; "not feasible"),
+    }
+}
+
 /// The text of a plan, which has to be feasible.
 fn text_by(
     rt: &impl Abort,
@@ -256,14 +276,11 @@ fn text_by(
     requires { IsSizedFor job.now plan.now }
 {
     let (names, goods, suppliers) = names;
+    assert_named(rt, names, goods);
+    assert_feasible(rt, job, plan);
     assert!(rt; goods.len() == job.goods());
     assert!(rt; suppliers.len() == job.suppliers());
-    let count = names.len();
-    assert!(rt; goods.iter().all(|n| (*n as usize) < count));
-    match job.standing(plan) {
-        Standing::Feasible(_) => plan_text(alloc, job, plan, names, goods, suppliers),
-        _ => panic!(rt; "not feasible"),
-    }
+    plan_text(alloc, job, plan, names, goods, suppliers)
 }
 
 fn text_of(rt: &impl Abort, alloc: Global, case: &Case) -> Result<Vec<u8>, Fail> {
@@ -297,8 +314,7 @@ fn bill_of(alloc: Global, orders: &[u8], lines: &[u8]) -> Result<Bill, Stop<Bill
 fn needs_by(rt: &impl Abort, alloc: Global, orders: &[u8], lines: &[u8]) -> Result<Vec<u8>, Fail> {
     let bill = bill_of(alloc, orders, lines)?;
     let needs = explode(alloc, &bill)?;
-    let count = bill.names().len();
-    assert!(rt; needs.goods().iter().all(|n| (*n as usize) < count));
+    assert_named(rt, bill.names(), needs.goods());
     Ok(needs_text(alloc, &bill, &needs)?)
 }
 
