@@ -10,8 +10,6 @@
 #![tactic(auto)]
 
 mod account;
-#[cfg(test)]
-mod tests;
 mod word;
 
 pub use word::{BestWord, Seat};

@@ -11,8 +11,6 @@
 
 mod dry;
 mod steps;
-#[cfg(test)]
-mod tests;
 
 pub use dry::Dry;
 pub use steps::{pop_counted, steal_counted};

@@ -19,8 +19,6 @@ mod finish;
 pub mod laws;
 mod node;
 mod nodes;
-#[cfg(test)]
-mod tests;
 
 pub use answers::{BookVerdict, Close, Improve, State, Take};
 pub use book::Book;

@@ -22,8 +22,6 @@ mod holds;
 mod kits;
 mod many;
 mod search;
-#[cfg(test)]
-mod tests;
 mod think;
 mod worker;
 

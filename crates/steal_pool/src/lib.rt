@@ -15,8 +15,6 @@ mod account;
 mod cuts;
 mod lane;
 mod pass;
-#[cfg(test)]
-mod tests;
 mod thief;
 mod ticket_list;
 

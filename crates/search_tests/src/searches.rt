@@ -1,7 +1,9 @@
+//! What the search finds on small jobs, on one thread and by several workers.
+
 ghost use Rattle.std.specs.Prelude.{◌≤◌};
 
-use crate::{NoGate, search_many, search_one, settle};
 use search_book::{Book, BookVerdict};
+use search_run::{NoGate, search_many, search_one, settle};
 use std::alloc::Global;
 use std::process::Abort;
 use std::sync::Wait;

@@ -1,4 +1,6 @@
-use crate::{Dry, pop_counted, steal_counted};
+//! Steps on a deque, and how often they found it empty.
+
+use counted_deque::{Dry, pop_counted, steal_counted};
 use crossbeam_deque::protocol::Free;
 use crossbeam_deque::{Steal, Worker};
 use std::test::Fail;

@@ -1,6 +1,8 @@
+//! The word that workers share, by one thread and by two.
+
 ghost use Rattle.std.specs.Prelude.{◌≡◌, ◌+◌};
 
-use crate::{BestWord, Seat};
+use best_word::{BestWord, Seat};
 use std::test::Fail;
 use std::thread::join;
 

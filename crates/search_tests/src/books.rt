@@ -1,11 +1,13 @@
+//! Books of a small job, call by call.
+
 ghost use Rattle.std.specs.Prelude.{IfOk};
 ghost use Rattle.tqd_instance.specs.Plan.{IsSizedFor};
 ghost use Rattle.interval_box.specs.Ranges.{IsBoxOf};
 ghost use Rattle.bound_tree.specs.Prices.{Fits};
 
-use crate::{Book, BookVerdict, Close, Improve, State, Take, laws};
 use bound_tree::{Leaf, Row, TreeNode, prices_fit};
 use interval_box::IntervalBox;
+use search_book::{Book, BookVerdict, Close, Improve, State, Take, laws};
 use std::alloc::Global;
 use std::process::Abort;
 use std::test::Fail;

@@ -1,10 +1,12 @@
+//! Lanes of tickets, by one thread and by two.
+
 ghost use Rattle.std.specs.Prelude.{◌≡◌, [], IfOk};
 
-use crate::{Lane, Pass, Thief};
 use std::alloc::{AllocError, Global};
 use std::sync::Wait;
 use std::test::Fail;
 use std::thread::join;
+use steal_pool::{Lane, Pass, Thief};
 
 fn crosses_threads<T: Send>() {}
 

@@ -1,5 +1,5 @@
 use Rattle.std.proofs.Common.{◌≡◌}
-use Rattle.steal_pool.proofs.tests.fill.Given as goal
+use Rattle.search_tests.proofs.lanes.fill.Given as goal
 
 abbrev pub invariant-loop-ticket : goal.invariant-loop-ticket
 invariant-loop-ticket l = (l.lane.lane ≡ l.fn.lane.lane) × (l.lane.parts ≡ l.fn.lane.parts)
