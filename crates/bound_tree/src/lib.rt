@@ -29,10 +29,10 @@ mod write;
 
 pub use leaf::{Leaf, TreeNode};
 pub use line::{LineHead, SignedList, TreeLine};
-pub use places::{place_count, prices_fit};
+pub use places::{count_of, place_count, prices_fit};
 pub use read_line::{line_head, prices_into};
 pub use reader::{LineGot, TreeReader};
 pub use row::Row;
 pub use tree::Tree;
-pub use value::{value_free_in, value_in};
+pub use value::{Asked, goods_value, least_times, saving, segment_value, value_free_in, value_in};
 pub use write::{WriteStop, write_tree};

@@ -11,7 +11,7 @@ use tqd_instance::Job;
 
 /// How many segments of a supplier's range something is bought in, at most 16.
 #[tactic(auto, unfolding(crate::specs::Prices::first_of, crate::specs::Prices::count_of))]
-pub(crate) fn count_of(area: &IntervalBox, i: usize) -> usize
+pub fn count_of(area: &IntervalBox, i: usize) -> usize
     requires supplier { i < SUPPLIERS_MAX }
     requires ordered { low_of area.now i ≤ high_of area.now i }
     ensures { result ≡ count_of area.now i }

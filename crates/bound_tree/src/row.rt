@@ -1,4 +1,4 @@
-ghost use Rattle.std.specs.Prelude.{◌≡◌, ◌<◌, ◌≤ℤ◌, ◌^◌, neg_ℤ, pos, length, IfOk};
+ghost use Rattle.std.specs.Prelude.{◌≡◌, ◌<◌, ◌≤ℤ◌, ◌^◌, neg_ℤ, pos, length, set, IfOk};
 ghost use Rattle.interval_box.specs.Ranges.{IsBoxOf};
 ghost use Rattle.bound_tree.specs.Prices.{price_at, Fits};
 ghost use Rattle.bound_tree.specs.Value.{value, free_value};
@@ -65,15 +65,31 @@ impl Row {
         self.places[at]
     }
 
+    /// Changes the price of a good.
+    pub fn set_good(&mut self, k: usize, price: i64)
+        requires { k < length self.old.goods }
+        ensures { self.new ≡ record { goods = set self.old.goods k price; places = self.old.places } }
+    {
+        self.goods[k] = price;
+    }
+
+    /// Changes the price at a place of the box.
+    pub fn set_place(&mut self, at: usize, price: i64)
+        requires { at < length self.old.places }
+        ensures { self.new ≡ record { goods = self.old.goods; places = set self.old.places at price } }
+    {
+        self.places[at] = price;
+    }
+
     /// The prices of the goods.
-    pub(crate) fn goods(&self) -> &[i64]
+    pub fn goods(&self) -> &[i64]
         ensures { result.now ≡ self.now.goods }
     {
         &self.goods
     }
 
     /// The prices at the places of the box.
-    pub(crate) fn places(&self) -> &[i64]
+    pub fn places(&self) -> &[i64]
         ensures { result.now ≡ self.now.places }
     {
         &self.places

@@ -25,7 +25,7 @@ use tqd_instance::Job;
 
 /// Whether the prices and fees of the job are asked, as in a value, or nothing, as in a free value.
 #[derive(Clone, Copy)]
-pub(crate) enum Asked {
+pub enum Asked {
     All,
     Nothing,
 }
@@ -45,7 +45,7 @@ impl Asked {
 
 /// The least of a price times a number of units from `low` to `high`.
 #[tactic(auto, unfolding(crate::specs::Value::least_times))]
-fn least_times(price: i64, low: u64, high: u64) -> i128
+pub fn least_times(price: i64, low: u64, high: u64) -> i128
     requires price { IsPrice price }
     requires low { low ≤ SUPPLIERS_MAX * QTY_MAX }
     requires high { high ≤ SUPPLIERS_MAX * QTY_MAX }
@@ -58,7 +58,7 @@ fn least_times(price: i64, low: u64, high: u64) -> i128
 }
 
 /// How much less is asked for a unit than its prices, or 0.
-fn saving(good: i64, place: i64, charge: u64) -> u64
+pub fn saving(good: i64, place: i64, charge: u64) -> u64
     requires good { IsPrice good }
     requires place { IsPrice place }
     requires charge { charge ≤ PRICE_MAX }
@@ -92,7 +92,7 @@ fn savings(job: &Job, good_prices: &[i64], asked: Asked, place: i64, i: usize, j
 
 /// The least that buying from a supplier in a segment can cost beyond the prices of the goods. The price of the segment
 /// is at place `at`, and segment 0 has none.
-fn segment_value(
+pub fn segment_value(
     job: &Job,
     good_prices: &[i64],
     place_prices: &[i64],
@@ -178,7 +178,7 @@ fn suppliers_value(
 }
 
 #[tactic(auto, using(crate::proofs::SignedSums::signed_sums), unfolding(crate::specs::Value::goods_value, crate::specs::Prices::price_at))]
-fn goods_value(job: &Job, good_prices: &[i64]) -> i128
+pub fn goods_value(job: &Job, good_prices: &[i64]) -> i128
     requires goods { length good_prices.now ≡ goods job.now }
     requires goods_in_range { All IsPrice good_prices.now }
     ensures value { result ≡ goods_value job.now good_prices.now }
