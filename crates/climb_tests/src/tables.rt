@@ -38,8 +38,8 @@ fn given(
 }
 
 /// The value of the row is 8.00. A millionth less for the good takes 100 of it, and more for it gives nothing. A total
-/// at 1 millionth a unit in the second segment gives as much as it takes; at 1 less, it takes 100,000,000, the most that
-/// the total can be.
+/// at 1 millionth a unit in the second segment gives as much as it takes; at 1 less, it takes 100,000,000, the most
+/// that the total can be.
 #[test]
 fn a_table_has_the_value_after_a_change(rt: HostRuntime) -> Result<(), Fail> {
     let job = steps(&rt, rt.alloc())?;

@@ -16,7 +16,8 @@ pub record IsStep (step : ℤ) : Type 0 where
 
 -- raising a price by delta leaves the limit of prices, or gives no greater value
 abbrev pub IsNoRaise : Job → IntervalBox → Prices → ℕ → ℤ → Type 0
-IsNoRaise job area row n delta = IsPrice (price_of row n +ℤ delta) → value job area (changed job row n delta) ≤ℤ value job area row
+IsNoRaise job area row n delta = IsPrice (price_of row n +ℤ delta)
+    → value job area (changed job row n delta) ≤ℤ value job area row
 
 -- no change of this price by a step up or down raises the value
 pub record StandsAt (job : Job) (area : IntervalBox) (row : Prices) (step : ℤ) (n : ℕ) : Type 0 where

@@ -29,4 +29,5 @@ IsColumn job area row i = Keeps (low_of area i) (high_of area i - low_of area i)
 
 -- the price of a number stands in the value of a segment of a supplier's range: it is that of a good, or of the segment
 abbrev pub Touches : Job → IntervalBox → ℕ → ℕ → Type 0
-Touches job area n i = (n < goods job) ⊎ ((places_to area i ≤ n - goods job) × (n - goods job < places_to area i + count_of area i))
+Touches job area n i = (n < goods job)
+    ⊎ ((places_to area i ≤ n - goods job) × (n - goods job < places_to area i + count_of area i))

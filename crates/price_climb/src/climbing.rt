@@ -92,9 +92,9 @@ impl<'j> ClimbTable<'j> {
     }
 }
 
-/// Raises the value of a row by changing one price at a time, by `step` up or down, in millionths of the currency a unit.
-/// After each change it goes on at the next price. Where `rounds` changes were made and another would raise the value, it
-/// ends in `Risen`. Each change raises the value by 1 millionth at least.
+/// Raises the value of a row by changing one price at a time, by `step` up or down, in millionths of the currency a
+/// unit. After each change, which raises the value by 1 millionth at least, it goes on at the next price. Where `rounds`
+/// changes were made and another would raise the value, it ends in `Risen`. `Err` is the want of memory.
 pub fn climb(
     alloc: Global,
     job: &Job,

@@ -36,7 +36,8 @@ impl Column {
     /// Keeps the value of the next segment.
     fn add(&mut self, j: u8, value: i128)
         requires { j ≤ 16 }
-        ensures { (low n : ℕ) → (f : ℕ → ℤ) → Keeps low n f self.old → j ≡ low + (n + 1) → value ≡ f j → Keeps low (n + 1) f self.new }
+        ensures { (low n : ℕ) → (f : ℕ → ℤ) → Keeps low n f self.old → j ≡ low + (n + 1) → value ≡ f j
+            → Keeps low (n + 1) f self.new }
     {
         self.values[usize::from(j)] = value;
         self.least = self.least.min(value);

@@ -1,9 +1,21 @@
-ghost use Rattle.std.specs.Prelude.{◌≡◌, ◌<◌, ◌≤◌, ◌≤ℤ◌, ◌^◌, neg_ℤ, pos, length, IfOk, IsTrue, ◌↔◌, SomeIff, if◌then◌else◌};
+ghost use Rattle.std.specs.Prelude.{
+  ◌≡◌,
+  ◌<◌,
+  ◌≤◌,
+  ◌≤ℤ◌,
+  ◌^◌,
+  neg_ℤ,
+  pos,
+  IfOk,
+  IsTrue,
+  ◌↔◌,
+  SomeIff,
+  if◌then◌else◌,
+};
 ghost use Rattle.tqd_instance.specs.Job.{suppliers};
-ghost use Rattle.tqd_base.specs.Sum.{signed_sum_to};
 ghost use Rattle.interval_box.specs.Ranges.{IsBoxOf};
 ghost use Rattle.bound_tree.specs.Prices.{IsPrice, Fits};
-ghost use Rattle.bound_tree.specs.Value.{value, goods_value};
+ghost use Rattle.bound_tree.specs.Value.{value};
 ghost use Rattle.price_climb.specs.PriceList.{price_count, with_price};
 ghost use Rattle.price_climb.specs.Table.{
   value_of,
@@ -25,8 +37,8 @@ use std::marker::Model;
 use tqd_base::Memory;
 use tqd_instance::Job;
 
-/// A row of a box with the value of each segment and the least one of each supplier, so that the value after a change of
-/// one price takes only the work that the price touches.
+/// A row of a box with the value of each segment and the least one of each supplier, so that the value after a change
+/// of one price takes only the work that the price touches.
 ///
 /// Every value of the type keeps what its row says. Prices are in millionths of the currency a unit, and places number
 /// the goods first, then the segments, but segment 0, of each supplier's range.
@@ -210,7 +222,8 @@ fn change_columns(job: &Job, area: &IntervalBox, row: &Row, columns: &mut [Colum
     requires columns { AreColumns job.now area.now row.now (suppliers job.now) columns.old }
     requires place { change.place < price_count job.now area.now }
     requires price { IsPrice change.price }
-    ensures { AreColumns job.now area.now (with_price job.now row.now change.place change.price) (suppliers job.now) columns.new }
+    ensures { AreColumns job.now area.now (with_price job.now row.now change.place change.price) (suppliers job.now)
+        columns.new }
 {
     let mut from = 0;
     for i in 0..job.suppliers() {
