@@ -4,3 +4,4 @@ pub mod Products
 pub mod Split
 pub mod Root
 pub mod Winning
+pub mod Singles

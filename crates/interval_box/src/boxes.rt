@@ -1,6 +1,8 @@
-ghost use Rattle.std.specs.Prelude.{ℕ, ◌≡◌, ◌<◌, IsTrue, ◌↔◌};
+ghost use Rattle.std.specs.Prelude.{ℕ, ◌≡◌, ◌<◌, ◌≤◌, length, slice_index, IsTrue, ◌↔◌};
 ghost use Rattle.tqd_base.specs.declared.limits.TheConstants.{SUPPLIERS_MAX};
 ghost use Rattle.tqd_instance.specs.declared.job.Job.{Job};
+ghost use Rattle.tqd_instance.specs.Job.{suppliers, segments};
+ghost use Rattle.interval_box.specs.Singles.{IsOfPicks};
 ghost use Rattle.interval_box.specs.Ranges.{low_of, high_of, Admits, IsBoxOf, IsZero, IsRoot};
 ghost use Rattle.interval_box.specs.Halves.{IsProper, low_half, high_half};
 
@@ -24,6 +26,20 @@ impl IntervalBox {
         let mut area = IntervalBox::zeros();
         for i in 0..job.suppliers() {
             area.highs[i] = job.segments(i);
+        }
+        area
+    }
+
+    /// The single box of a pick for each supplier, which is a segment number; further picks are not read.
+    pub fn of_picks(job: &Job, picks: &[u8]) -> IntervalBox
+        requires count { suppliers job.now ≤ length picks.now }
+        requires segments { (i : ℕ) → i < suppliers job.now → slice_index picks.now i ≤ segments job.now i }
+        ensures { IsOfPicks job.now picks.now result }
+    {
+        let mut area = IntervalBox::zeros();
+        for i in 0..job.suppliers() {
+            area.lows[i] = picks[i];
+            area.highs[i] = picks[i];
         }
         area
     }

@@ -1,7 +1,8 @@
 //! Boxes of purchases: for each supplier of a job a range of segment numbers, in which its total has to pick.
 //!
 //! `specs/` says which purchases are in a box (`Ranges`), what the halves of a split are (`Halves`), how large a box
-//! is (`Size`) and when no purchase in it can meet the winner limits (`Winners`), over all matrices of whole numbers.
+//! is (`Size`), when no purchase in it can meet the winner limits (`Winners`), over all matrices of whole numbers, and
+//! what the box of a pick for each supplier is (`Singles`).
 //!
 //! The calls of `IntervalBox` compute these words, and none of them takes memory. The functions of `laws` promise that
 //! every feasible purchase is in the root, that a purchase in a box is in exactly one half of each proper split, that
