@@ -1,0 +1,16 @@
+pub mod OneLevel
+pub mod OfferSums
+pub mod Reaching
+pub mod LevelChoice
+pub mod Losses
+pub mod Balance
+pub mod PriceReads
+pub mod SignedLaws
+pub mod Worths
+pub mod FirstLeast
+pub mod Filled
+pub mod Costs
+pub mod Finding
+pub mod PricedTo
+pub mod Places
+pub mod Values

@@ -1,0 +1,5 @@
+pub mod Levels
+pub mod Filling
+pub mod Priced
+pub mod PricingState
+pub mod Pricing
