@@ -14,3 +14,8 @@ pub mod Finding
 pub mod PricedTo
 pub mod Places
 pub mod Values
+pub mod Weighing
+pub mod Mixing
+pub mod Bundles
+pub mod Rises
+pub mod WeightSums

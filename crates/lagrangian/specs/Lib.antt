@@ -3,3 +3,8 @@ pub mod Filling
 pub mod Priced
 pub mod PricingState
 pub mod Pricing
+pub mod Weights
+pub mod Columns
+pub mod Bundle
+pub mod Climbing
+pub mod Rounds

@@ -8,16 +8,30 @@
 //!
 //! The best price of a place is where what is offered at lower levels brings the total between the segment's low and
 //! high: the optimum of a continuous knapsack. That no other is better is weak duality in one segment.
+//!
+//! A `Climber` raises prices of the goods towards the best bound of a box, by a proximal bundle (Kiwiel 1990; Frangioni
+//! 2002), and keeps for each supplier a mixture of purchases (Barahona and Anbil 2000). `specs/Climbing` says what a climb
+//! promises: at its end the pricing is that of its prices, it answers Reached exactly where the value is at the target,
+//! and no row of the prices that it came with has a greater value. All else that it computes is advice.
 #![tactic(auto)]
 
+mod bundle;
+mod climb;
+mod column;
+mod columns;
 mod fill;
+mod first_prices;
 mod gather;
 mod goods;
 mod level;
 mod offer;
 mod place;
 mod pricing;
+mod scale;
 mod supplier;
 mod suppliers;
+mod trial;
+mod weights;
 
+pub use climb::{Climb, Climber};
 pub use pricing::Pricing;
