@@ -1,5 +1,6 @@
 pub mod OneLevel
 pub mod OfferSums
+pub mod Keeping
 pub mod Reaching
 pub mod LevelChoice
 pub mod Losses

@@ -1,5 +1,6 @@
 -- Sums over a list of offers: one more offer, the same offers in another order, and how they grow with the level.
-use Rattle.std.proofs.Common.{ℕ, ◌≡◌, ◌+◌, ◌-◌, ◌*◌, ◌<◌, ◌≤◌, List, [], ◌∷◌, length, get_or, take, refl, ap, sym, ◌∙◌, arith}
+use Rattle.std.proofs.lemmas.List.{take-set}
+use Rattle.std.proofs.Common.{ℕ, ◌≡◌, ◌+◌, ◌-◌, ◌*◌, ◌<◌, ◌≤◌, List, [], ◌∷◌, length, get_or, take, refl, ap, sym, ◌∙◌, arith, set, length-set, get_or-set_same}
 use Rattle.std.specs.List.{sum_by, All}
 use Rattle.std.specs.List.Sorted.{IsPermutation}
 use Rattle.std.proofs.lemmas.List.Sums.{sum_by_more, sum_by-cons, sum_by-le-sum_by}
@@ -94,3 +95,19 @@ loss-computed top level cap a b c e f g = cc
 -- offers in another order state the same goods
 pub states_same : (n : ℕ) (level cap : ℕ → ℕ) (xs ys : List Offer) → IsPermutation xs ys → AreOffersOf n level cap xs → AreOffersOf n level cap ys
 states_same n level cap xs ys h states f none = sum_by-IsPermutation (λ o. f o.level o.cap) xs ys h ∙ states f none
+
+-- an offer is put behind the first ones, and counted where it has units
+pub put_none : (f : ℕ → ℕ → ℕ) (old : List Offer) (count : ℕ) (o : Offer) → ((l : ℕ) → f l 0 ≡ 0) → o.cap ≡ 0
+    → sum_by (λ o. f o.level o.cap) (take count (set old count o)) ≡ sum_by (λ o. f o.level o.cap) (take count old) + f o.level o.cap
+put_none f old count o none empty =
+    let nothing : f o.level o.cap ≡ 0 = ap (f o.level) empty ∙ none o.level in
+    let kept = ap (sum_by (λ (o : Offer). f o.level o.cap)) (take-set old count o) in
+    omega arith
+
+pub put_some : (f : ℕ → ℕ → ℕ) (old : List Offer) (count : ℕ) (o : Offer) → count < length old
+    → sum_by (λ o. f o.level o.cap) (take (count + 1) (set old count o)) ≡ sum_by (λ o. f o.level o.cap) (take count old) + f o.level o.cap
+put_some f old count o room =
+    let g = λ (o : Offer). f o.level o.cap in
+    let more = sum_by_more g (set old count o) count o (omega (arith, length-set old count o)) in
+    let here = get_or-set_same old count o o room in
+    more ∙ ap (λ (n : ℕ). n + g (get_or (set old count o) count o)) (ap (sum_by g) (take-set old count o)) ∙ ap (λ (x : Offer). sum_by g (take count old) + g x) here

@@ -1,6 +1,6 @@
 -- Units at levels, and the level that balances them with a range of totals. A level is what is left of a price beside a
 -- good's price, counted up from ZERO, so that it is no number below 0.
-use Rattle.std.specs.Prelude.{ℕ, ◌≡◌, ◌-◌, ◌*◌, ◌<◌, ◌≤◌, ◌⊎◌, max, nat_lt, nat_le, if◌then◌else◌, List}
+use Rattle.std.specs.Prelude.{ℕ, ◌≡◌, ◌-◌, ◌*◌, ◌<◌, ◌≤◌, ◌⊎◌, max, nat_lt, nat_le, Bool, ◌&&◌, if◌then◌else◌, List}
 use Rattle.std.specs.List.{sum_by}
 use Rattle.tqd_base.specs.Sum.{sum_to}
 use Rattle.lagrangian.specs.declared.offer.TheConstants.{ZERO, TOP}
@@ -17,6 +17,10 @@ up_to top level cap = if nat_le level top then cap else 0
 -- by how much so many units at a level are under another one, in all
 unfoldable pub loss : ℕ → ℕ → ℕ → ℕ
 loss top level cap = cap * (top - level)
+
+-- whether the level of an offer is from one level up to another, which is left out
+unfoldable pub is_between : ℕ → ℕ → Offer → Bool
+is_between from to o = nat_le from o.level && nat_lt o.level to
 
 -- the same over all offers of a list
 unfoldable pub units_under : ℕ → List Offer → ℕ

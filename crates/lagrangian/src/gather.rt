@@ -31,7 +31,8 @@ pub(crate) fn cap_of(job: &Job, i: usize, k: usize) -> u64
     job.stock(i, k).min(job.most(k))
 }
 
-/// Puts an offer after the first `count`, but one of no units, and answers how many there are then.
+/// Puts an offer after the first `count`, and answers how many there are then: one of no units is not counted. It is put
+/// there all the same, so that no branch has to be guessed.
 fn put(offers: &mut [Offer], count: usize, offer: Offer) -> usize
     requires { count < length offers.old }
     ensures len { length offers.new ≡ length offers.old }
@@ -40,11 +41,9 @@ fn put(offers: &mut [Offer], count: usize, offer: Offer) -> usize
         → sum_by (λ o. f o.level o.cap) (take result offers.new)
         ≡ sum_by (λ o. f o.level o.cap) (take count offers.old) + f offer.level offer.cap }
 {
-    if offer.cap == 0 {
-        return count;
-    }
+    let more = if offer.cap == 0 { 0 } else { 1 };
     offers[count] = offer;
-    count + 1
+    count + more
 }
 
 /// Puts what a supplier offers of the goods in a segment at the front of a list, and answers how many offers these are.

@@ -1,8 +1,9 @@
-ghost use Rattle.std.specs.Prelude.{◌≡◌, ◌*◌, ◌<◌, ◌≤◌, length};
-ghost use Rattle.std.specs.List.Sorted.{IsNonDecreasingBy, IsPermutation};
+ghost use Rattle.std.specs.Prelude.{if◌then◌else◌, take, ◌≡◌, ◌*◌, ◌<◌, ◌≤◌, length};
+ghost use Rattle.std.specs.List.{filter};
+ghost use Rattle.std.specs.List.Sorted.{IsPermutation};
 ghost use Rattle.tqd_base.specs.declared.limits.TheConstants.{GOODS_MAX, QTY_MAX};
 ghost use Rattle.lagrangian.specs.declared.offer.TheConstants.{TOP};
-ghost use Rattle.lagrangian.specs.Levels.{under, units_under, units_up_to, losses_of, IsBalanced, IsReached};
+ghost use Rattle.lagrangian.specs.Levels.{under, units_under, units_up_to, losses_of, is_between, IsBalanced, IsReached};
 
 use crate::offer::{Offer, TOP, ZERO};
 
@@ -42,21 +43,64 @@ pub(crate) fn losses(offers: &[Offer], top: u64) -> u128
     sum
 }
 
-/// The first level up to which so many units are reached, or `TOP`. The offers rise by their levels.
-fn level_reaching(offers: &[Offer], wanted: u64) -> u64
-    requires few { length offers.now ≤ GOODS_MAX }
-    requires rising { IsNonDecreasingBy (λ o. o.level) offers.now }
-    requires some { 1 ≤ wanted }
-    ensures { IsReached wanted (units_under result offers.now) (units_up_to result offers.now) result }
+/// 1 for a level from one level up to another, which is left out, else 0.
+#[tactic(auto, unfolding(crate::specs::Levels::is_between))]
+fn counted(from: u64, to: u64, offer: Offer) -> usize
+    ensures { result ≡ (if is_between from to offer then 1 else 0) }
 {
-    let mut units = 0;
-    for offer in offers {
-        units += offer.cap;
-        if wanted <= units {
-            return offer.level;
-        }
+    if from <= offer.level && offer.level < to {
+        1
+    } else {
+        0
     }
-    TOP
+}
+
+/// Puts those of the first `len` offers whose levels are from one level up to another, which is left out, at the front,
+/// and answers how many these are.
+fn keep_between(offers: &mut [Offer], len: usize, from: u64, to: u64) -> usize
+    requires { len ≤ length offers.old }
+    ensures same { IsPermutation offers.old offers.new }
+    ensures few { result ≤ len }
+    ensures kept { take result offers.new ≡ filter (is_between from to) (take len offers.old) }
+{
+    let mut count = 0;
+    for n in 0..len {
+        let offer = offers[n];
+        offers.swap(count, n);
+        count += counted(from, to, offer);
+    }
+    count
+}
+
+/// The first level up to which so many units are reached, by selection: at each offer that is tried, those on the wrong
+/// side of its level are left out. It may change the order of the offers.
+fn level_reaching(offers: &mut [Offer], wanted: u64) -> u64
+    requires few { length offers.old ≤ GOODS_MAX }
+    requires some { 1 ≤ wanted }
+    requires enough { wanted ≤ units_under TOP offers.old }
+    ensures same { IsPermutation offers.old offers.new }
+    ensures reached { IsReached wanted (units_under result offers.old) (units_up_to result offers.old) result }
+{
+    let mut len = offers.len();
+    let mut from = 0;
+    let mut to = TOP;
+    let mut below = 0;
+    'select: loop {
+        let tried = offers[len / 2];
+        let level = tried.level;
+        let under = below + units_under(&offers[..len], level);
+        if wanted <= under {
+            to = level;
+        } else {
+            let up_to = below + units_under(&offers[..len], level + 1);
+            if wanted <= up_to {
+                return level;
+            }
+            from = level + 1;
+            below = up_to;
+        }
+        len = keep_between(offers, len, from, to);
+    }
 }
 
 /// The level that balances offers with totals from `low` to `high`, in units. It may change the order of the offers.
@@ -74,6 +118,5 @@ pub(crate) fn balanced_level(offers: &mut [Offer], low: u64, high: u64) -> u64
     if units_under(offers, TOP) < low {
         return TOP;
     }
-    offers.sort_unstable_by_key(|offer| offer.level);
     level_reaching(offers, if high < below { high } else { low })
 }
