@@ -20,3 +20,4 @@ pub mod Mixing
 pub mod Bundles
 pub mod Rises
 pub mod WeightSums
+pub mod Repairs

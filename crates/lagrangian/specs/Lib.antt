@@ -8,3 +8,6 @@ pub mod Columns
 pub mod Bundle
 pub mod Climbing
 pub mod Rounds
+pub mod Repair
+pub mod Limits
+pub mod Swaps

@@ -13,6 +13,9 @@
 //! 2002), and keeps for each supplier a mixture of purchases (Barahona and Anbil 2000). `specs/Climbing` says what a climb
 //! promises: at its end the pricing is that of its prices, it answers Reached exactly where the value is at the target,
 //! and no row of the prices that it came with has a greater value. All else that it computes is advice.
+//!
+//! `repaired` changes picks of the suppliers, one at a time, into a single box with room for a feasible purchase
+//! (`specs/Repair`), where the worths of a pricing say what a change costs.
 #![tactic(auto)]
 
 mod bundle;
@@ -23,15 +26,22 @@ mod fill;
 mod first_prices;
 mod gather;
 mod goods;
+mod lack;
 mod level;
 mod offer;
 mod place;
 mod pricing;
+mod repair;
 mod scale;
 mod supplier;
 mod suppliers;
+mod swap;
+mod totals;
 mod trial;
 mod weights;
 
 pub use climb::{Climb, Climber};
 pub use pricing::Pricing;
+pub use repair::repaired;
+pub use totals::{Limits, high_at, highs, low_at, lows};
+pub use weights::WHOLE;

@@ -1,3 +1,6 @@
 pub mod Flows
 pub mod Halves
+pub mod Moves
 pub mod Openings
+pub mod Thoughts
+pub mod Trims

@@ -1,4 +1,8 @@
 pub mod Opened
-pub mod Thinking
+pub mod Stages
+pub mod Thoughts
+pub mod Trims
+pub mod Branches
+pub mod Minds
 pub mod Steps
 pub mod Working

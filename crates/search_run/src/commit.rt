@@ -1,75 +1,60 @@
-ghost use Rattle.std.specs.Prelude.{◌≡◌, ◌<◌, ◌≤◌, IfOk, OnErr, IsSomeAnd};
-ghost use Rattle.interval_box.specs.Halves.{IsProper};
+ghost use Rattle.std.specs.Prelude.{ℕ, ◌≡◌, ◌≢◌, ◌<◌, ◌≤◌, IfOk, IfSome, OnErr, IsSomeAnd};
+ghost use Rattle.bound_tree.specs.Prices.{Fits};
 ghost use Rattle.bound_tree.specs.Kills.{Kills};
+ghost use Rattle.interval_box.specs.Halves.{IsProper};
 ghost use Rattle.search_book.specs.declared.node.Phase.TheVariants.{Taken};
-ghost use Rattle.search_book.specs.Nodes.{area_of, HasPhase};
+ghost use Rattle.search_book.specs.Nodes.{area_of, phase_of, HasPhase};
 ghost use Rattle.search_book.specs.BookState.{best_cost};
 ghost use Rattle.search_book.specs.Counts.{due_size};
+ghost use Rattle.search_book.specs.Answers.{CanClose};
 ghost use Rattle.search_book.specs.Later.{IsLater};
-ghost use Rattle.search_book.specs.Taken.{SameTaken};
-ghost use Rattle.search_run.specs.Thinking.{IsBranch, IsOffer, IsThought, IsValued};
-ghost use Rattle.search_run.specs.Steps.{ClosesOrSplits, HasClosed, Makes};
+ghost use Rattle.search_book.specs.Taken.{SameTaken, TakenWithout};
+ghost use Rattle.search_run.specs.Stages.{rank};
+ghost use Rattle.search_run.specs.Thoughts.{rest_of, AreCuts, IsCut, IsOffer, IsThought};
+ghost use Rattle.search_run.specs.Steps.{HasClosed, IsRestOf, IsTaskIn, Makes};
 
-use crate::think::{Branch, Offer, Thought, Valued, reaches};
+use crate::many::Way;
+use crate::thought::{Act, Branch, Cut, Offer, Stage, Task, Thought};
 use bound_tree::{Leaf, Row};
-use interval_box::IntervalBox;
-use search_book::{Book, Close};
+use search_book::{Book, Close, Take};
 use tqd_base::Memory;
-
-/// A half that was kept of a split box: its node, which is Taken, its box, and a row of it.
-#[derive(Drop)]
-pub(crate) struct Half {
-    pub(crate) number: u64,
-    pub(crate) area: IntervalBox,
-    pub(crate) row: Row,
-}
 
 /// What a thought made of the node of its box.
 #[derive(Drop)]
 pub(crate) enum Step {
     Closed,
+    /// The work goes on, with the same box or with what was left of it.
+    Goes(Task),
     /// The half that is kept is Taken, the other one, of this number, is Open.
-    Split { half: Half, other: u64 },
-    /// The row that was kept is below the cost of the best plan, or there is none: nothing changed.
-    Short,
+    Split { half: Task, other: u64 },
 }
 
-/// Writes a thought about the box of a Taken node into the book. Without memory the node stays Taken; the plan may have
-/// been offered.
-pub(crate) fn commit(book: &mut Book, n: u64, thought: Thought) -> Result<Step, Memory>
-    requires taken { HasPhase book.old.nodes n Taken }
-    requires thought { IsThought book.old.job (area_of book.old.nodes n) thought }
-    ensures step { IfOk result (Makes book.old n thought book.new) }
-    ensures err { OnErr result (SameTaken book.old book.new) }
+/// Writes a thought about the box of a Taken node into the book. Without memory the box, or what is left of it, is given
+/// back; the plan may have been offered.
+pub(crate) fn commit(book: &mut Book, task: Task, thought: Thought) -> Result<Step, Memory>
+    requires task { IsTaskIn book.old task }
+    requires thought { IsThought book.old.job task.area task.stage thought }
+    ensures step { IfOk result (Makes book.old task book.new) }
+    ensures err { OnErr result (TakenWithout book.old task.number book.new) }
     ensures later { IsLater book.old book.new }
 {
-    match thought {
-        Thought::Killed(leaf) => {
-            close(book, n, leaf);
+    let Thought { offer, act } = thought;
+    if let Some(offer) = offer {
+        improve(book, offer);
+    }
+    match act {
+        Act::Stay => Ok(Step::Goes(task.staged())),
+        Act::Kill(leaf) => {
+            close(book, task.number, leaf);
             Ok(Step::Closed)
         }
-        Thought::Reached(bound) => {
-            if !reaches(book.best(), bound.value) {
-                return Ok(Step::Short);
-            }
-            close(book, n, Leaf::Bound(bound.row));
+        Act::Reach(row) => Ok(reach(book, task, row)),
+        Act::Solve(row) => {
+            close(book, task.number, Leaf::Bound(row));
             Ok(Step::Closed)
         }
-        Thought::Solved { offer, bound } => {
-            improve(book, offer);
-            close(book, n, Leaf::Bound(bound.row));
-            Ok(Step::Closed)
-        }
-        Thought::Branched {
-            offer,
-            bound,
-            branch,
-        } => {
-            if let Some(offer) = offer {
-                improve(book, offer);
-            }
-            close_or_split(book, n, bound, branch)
-        }
+        Act::Trim(cuts) => Ok(Step::Goes(trim(book, task, cuts)?.staged())),
+        Act::Split { bound, branch } => close_or_split(book, task, bound, branch),
     }
 }
 
@@ -92,45 +77,123 @@ fn improve(book: &mut Book, offer: Offer)
     ensures known { IsSomeAnd (best_cost book.new) (λ best. best ≤ offer.cost) }
     ensures nodes { book.new.nodes ≡ book.old.nodes }
     ensures due { due_size book.new ≡ due_size book.old }
+    ensures takes { SameTaken book.old book.new }
     ensures later { IsLater book.old book.new }
 {
     let Offer { plan, cost } = offer;
     book.improve(plan, cost);
 }
 
-/// Closes a Taken box by its bound, where that reaches the cost of the best plan, and else splits it.
-fn close_or_split(book: &mut Book, n: u64, bound: Valued, branch: Branch) -> Result<Step, Memory>
-    requires taken { HasPhase book.old.nodes n Taken }
-    requires bound { IsValued book.old.job (area_of book.old.nodes n) bound }
-    requires branch { IsBranch book.old.job (area_of book.old.nodes n) branch }
-    ensures step { IfOk result (ClosesOrSplits book.old n book.new) }
-    ensures err { OnErr result (book.new ≡ book.old) }
+/// Closes a Taken box by a row, where that reaches the cost of the best plan. Else the work goes on.
+fn reach(book: &mut Book, task: Task, row: Row) -> Step
+    requires task { IsTaskIn book.old task }
+    requires stage { 0 < rank task.stage }
+    requires fits { Fits book.old.job task.area row }
+    ensures step { Makes book.old task book.new result }
     ensures later { IsLater book.old book.new }
 {
-    if reaches(book.best(), bound.value) {
-        close(book, n, Leaf::Bound(bound.row));
-        return Ok(Step::Closed);
+    match book.close(task.number, Leaf::Bound(row)) {
+        Close::Closed => Step::Closed,
+        Close::Short(_) => Step::Goes(task.staged()),
     }
-    split(book, n, branch)
 }
 
-/// Splits a Taken box and keeps a half.
-fn split(book: &mut Book, n: u64, branch: Branch) -> Result<Step, Memory>
+/// Splits ends off a Taken box, one after another. Without memory what is left is given back.
+fn trim(book: &mut Book, task: Task, cuts: Vec<Cut>) -> Result<Task, Memory>
+    requires task { IsTaskIn book.old task }
+    requires cuts { AreCuts book.old.job task.area cuts.items }
+    ensures rest { IfOk result (IsRestOf book.old task book.new) }
+    ensures err { OnErr result (TakenWithout book.old task.number book.new) }
+    ensures later { IsLater book.old book.new }
+{
+    let mut rest = task;
+    for cut in cuts {
+        rest = cut_off(book, rest, cut)?;
+    }
+    Ok(rest)
+}
+
+/// Splits an end off a Taken box and closes it; the rest is Taken. An end whose row is short is given back.
+fn cut_off(book: &mut Book, task: Task, cut: Cut) -> Result<Task, Memory>
+    requires task { IsTaskIn book.old task }
+    requires cut { IsCut book.old.job task.area cut }
+    ensures rest { IfOk result (IsRestOf book.old task book.new) }
+    ensures area { IfOk result (λ rest. rest.area ≡ rest_of task.area cut) }
+    ensures err { OnErr result (TakenWithout book.old task.number book.new) }
+    ensures later { IsLater book.old book.new }
+{
+    let Cut {
+        supplier,
+        at,
+        low,
+        leaf,
+    } = cut;
+    let Ok((low_half, high_half)) = book.split(task.number, supplier, at, low) else {
+        book.give_back(task.number);
+        return Err(Memory);
+    };
+    let (dead, number) = if low { (low_half, high_half) } else { (high_half, low_half) };
+    bury(book, dead, leaf);
+    match book.take(number) {
+        Take::Got(area) => Ok(Task { number, area, ..task }),
+        Take::NotOpen(_) => unreachable!(),
+    }
+}
+
+/// Closes a Taken node by a leaf, or gives it back.
+fn bury(book: &mut Book, n: u64, leaf: Leaf)
     requires taken { HasPhase book.old.nodes n Taken }
-    requires branch { IsBranch book.old.job (area_of book.old.nodes n) branch }
-    ensures step { IfOk result (ClosesOrSplits book.old n book.new) }
-    ensures err { OnErr result (book.new ≡ book.old) }
+    requires leaf { CanClose book.old.job (area_of book.old.nodes n) leaf }
+    ensures others { (k : ℕ) → k ≢ n → phase_of book.new.nodes k ≡ phase_of book.old.nodes k }
+    ensures takes { TakenWithout book.old n book.new }
+    ensures due { due_size book.new ≤ due_size book.old }
+    ensures later { IsLater book.old book.new }
+{
+    if let Close::Short(_) = book.close(n, leaf) {
+        book.give_back(n);
+    }
+}
+
+/// Closes a Taken box by a row, where there is one that reaches the cost of the best plan, and else splits it.
+fn close_or_split(book: &mut Book, task: Task, bound: Option<Row>, branch: Branch) -> Result<Step, Memory>
+    requires task { IsTaskIn book.old task }
+    requires fits { IfSome bound (Fits book.old.job task.area) }
+    requires proper { IsProper task.area branch.supplier branch.at }
+    ensures step { IfOk result (Makes book.old task book.new) }
+    ensures err { OnErr result (TakenWithout book.old task.number book.new) }
+    ensures later { IsLater book.old book.new }
+{
+    if let Some(row) = bound {
+        if let Close::Closed = book.close(task.number, Leaf::Bound(row)) {
+            return Ok(Step::Closed);
+        }
+    }
+    split(book, task, branch)
+}
+
+/// Splits a Taken box and keeps a half. Without memory the box is given back.
+fn split(book: &mut Book, task: Task, branch: Branch) -> Result<Step, Memory>
+    requires task { IsTaskIn book.old task }
+    requires proper { IsProper task.area branch.supplier branch.at }
+    ensures step { IfOk result (Makes book.old task book.new) }
+    ensures err { OnErr result (TakenWithout book.old task.number book.new) }
     ensures later { IsLater book.old book.new }
 {
     let Branch {
         supplier,
         at,
         keep_low,
-        half: area,
-        row,
     } = branch;
-    let (low, high) = book.split(n, supplier, at, keep_low)?;
+    let Ok((low, high)) = book.split(task.number, supplier, at, keep_low) else {
+        book.give_back(task.number);
+        return Err(Memory);
+    };
     let (number, other) = if keep_low { (low, high) } else { (high, low) };
-    let half = Half { number, area, row };
+    let half = Task {
+        number,
+        area: book.area(number),
+        stage: Stage::Enter,
+        way: Way::Kept,
+    };
     Ok(Step::Split { half, other })
 }

@@ -1,33 +1,20 @@
 //! What a worker does to the book: each method of `Hall` takes the lock once, and knows nothing of the book that it
 //! finds there but what its type keeps.
-ghost use Rattle.std.specs.Prelude.{◌≡◌, ◌<◌, IfSome, length};
-ghost use Rattle.interval_box.specs.Ranges.{IsBoxOf};
-ghost use Rattle.search_book.specs.declared.node.Phase.TheVariants.{Taken};
-ghost use Rattle.search_book.specs.Nodes.{area_of, HasPhase};
+ghost use Rattle.std.specs.Prelude.{◌≡◌, IfSome};
 ghost use Rattle.search_book.specs.Later.{IsLater};
-ghost use Rattle.search_run.specs.Thinking.{IsThought};
-ghost use Rattle.search_run.specs.Working.{IsGoodFor, IsTask, IsTaskIn};
+ghost use Rattle.search_run.specs.Thoughts.{IsThought};
+ghost use Rattle.search_run.specs.Steps.{IsTaskIn};
+ghost use Rattle.search_run.specs.Working.{IsFoundIn, IsGoodFor, IsTask};
 
-use crate::commit::{Half, Step, commit};
+use crate::commit::{Step, commit};
 use crate::kits::Kit;
 use crate::many::Way;
-use crate::think::Thought;
-use bound_tree::Row;
+use crate::thought::{Task, Thought, entered};
 use interval_box::IntervalBox;
 use search_book::{Book, Take};
 use std::sync::{Condvar, Mutex, Wait};
 use tqd_base::Memory;
 use tqd_instance::Job;
-
-/// A box that a worker goes on with, its number, how the worker came by it, and a row of it where it is a half that
-/// was kept.
-#[derive(Drop)]
-pub(crate) struct Task {
-    pub(crate) number: u64,
-    pub(crate) area: IntervalBox,
-    pub(crate) row: Option<Row>,
-    pub(crate) way: Way,
-}
 
 /// What a look for a box found.
 #[derive(Drop)]
@@ -42,8 +29,8 @@ pub(crate) enum Look {
 /// What a worker does next.
 #[derive(Drop)]
 pub(crate) enum Next {
-    /// It goes on with the half that it kept.
-    Kept(Half),
+    /// It goes on with a box that it has.
+    Kept(Task),
     /// It looks for a box.
     Free,
     /// It ends.
@@ -81,7 +68,7 @@ impl<'j> Hall<'j> {
 
     /// Takes the box of a ticket, where it is still Open.
     pub(crate) fn take<R: Wait>(&self, rt: &R, ticket: u64, way: Way) -> Look
-        ensures { IsTaskIn self.now.job.now result }
+        ensures { IsFoundIn self.now.job.now result }
     {
         let mut book = self.book.lock(rt);
         if !book.job().same(self.job) {
@@ -93,7 +80,7 @@ impl<'j> Hall<'j> {
     /// Looks at all lanes while no other worker changes the book. Where they are empty, takes the Open box of the least
     /// number; where there is none, waits for the boxes that others have.
     pub(crate) fn look<R: Wait>(&self, rt: &R, kit: &mut Kit) -> Look
-        ensures { IsTaskIn self.now.job.now result }
+        ensures { IsFoundIn self.now.job.now result }
     {
         let mut book = self.book.lock(rt);
         if !book.job().same(self.job) {
@@ -114,27 +101,27 @@ impl<'j> Hall<'j> {
         Look::Again
     }
 
-    /// Writes a thought about a box that the worker took into the book, where the box is still Taken, and keeps the
-    /// ticket of the half that it does not keep.
+    /// Writes a thought about the box of a task into the book, where the box is still Taken, and keeps the ticket of the
+    /// half that it does not keep.
     pub(crate) fn write<R: Wait>(
         &self,
         rt: &R,
         kit: &mut Kit,
-        n: u64,
-        area: &IntervalBox,
+        task: Task,
         thought: Thought,
     ) -> Next
-        requires { IsThought self.now.job.now area.now thought }
+        requires task { IsTask self.now.job.now task }
+        requires thought { IsThought self.now.job.now task.area task.stage thought }
         ensures { IsGoodFor self.now.job.now result }
     {
         let mut book = self.book.lock(rt);
         if !book.job().same(self.job) {
             return Next::Over;
         }
-        if !book.is_taken_at(n, area) {
+        if !book.is_taken_at(task.number, &task.area) {
             return Next::Free;
         }
-        let next = write_thought(&mut *book, kit, n, thought);
+        let next = write_thought(&mut *book, kit, task, thought);
         self.changed.notify_all();
         next
     }
@@ -156,19 +143,14 @@ impl<'j> Hall<'j> {
 
 /// Takes the box of a ticket, which may be any number.
 fn claim(book: &mut Book, ticket: u64, way: Way) -> Look
-    ensures task { IsTaskIn book.old.job result }
+    ensures task { IsFoundIn book.old.job result }
     ensures later { IsLater book.old book.new }
 {
     if book.nodes() <= ticket {
         return Look::Again;
     }
     match book.take(ticket) {
-        Take::Got(area) => Look::Found(Task {
-            number: ticket,
-            area,
-            row: None,
-            way,
-        }),
+        Take::Got(area) => Look::Found(entered(ticket, &area, way)),
         Take::NotOpen(_) => Look::Again,
     }
 }
@@ -179,35 +161,23 @@ fn first(book: &mut Book) -> Option<Task>
     ensures later { IsLater book.old book.new }
 {
     let (number, area) = book.take_first()?;
-    Some(Task {
-        number,
-        area,
-        row: None,
-        way: Way::First,
-    })
+    Some(entered(number, &area, Way::First))
 }
 
-/// Writes a thought about the box of a Taken node. Where the row that was kept is short after all, and without memory,
-/// the box is given back.
-fn write_thought(book: &mut Book, kit: &mut Kit, n: u64, thought: Thought) -> Next
-    requires taken { HasPhase book.old.nodes n Taken }
-    requires thought { IsThought book.old.job (area_of book.old.nodes n) thought }
+/// Writes a thought about the box of a Taken node.
+fn write_thought(book: &mut Book, kit: &mut Kit, task: Task, thought: Thought) -> Next
+    requires task { IsTaskIn book.old task }
+    requires thought { IsThought book.old.job task.area task.stage thought }
     ensures next { IsGoodFor book.old.job result }
     ensures later { IsLater book.old book.new }
 {
-    match commit(book, n, thought) {
+    match commit(book, task, thought) {
         Ok(Step::Closed) => Next::Free,
+        Ok(Step::Goes(next)) => Next::Kept(next),
         Ok(Step::Split { half, other }) => {
             kit.push(other);
             Next::Kept(half)
         }
-        Ok(Step::Short) => {
-            book.give_back(n);
-            Next::Free
-        }
-        Err(Memory) => {
-            book.give_back(n);
-            Next::Over
-        }
+        Err(Memory) => Next::Over,
     }
 }

@@ -17,13 +17,23 @@
 //! when they have ended it settles what they left. Each of the three answers a book of the job with a verdict, or Memory.
 #![tactic(auto)]
 
+mod branch;
 mod commit;
+mod flow;
 mod holds;
 mod kits;
 mod many;
+mod mind;
+mod rows;
 mod search;
 mod think;
+mod thought;
+mod totals;
+mod tries;
+mod trim;
+mod winners;
 mod worker;
+mod worths;
 
 pub use many::{Gate, NoGate, Way, search_many};
 pub use search::{search_one, settle};

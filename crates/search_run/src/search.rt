@@ -1,16 +1,16 @@
-ghost use Rattle.std.specs.Prelude.{◌≡◌, ◌<◌, IfOk, IfSome, OnOk};
+ghost use Rattle.std.specs.Prelude.{◌≡◌, IfOk, OnOk};
 ghost use Rattle.interval_box.specs.Ranges.{IsBoxOf};
-ghost use Rattle.bound_tree.specs.Prices.{Fits};
-ghost use Rattle.search_book.specs.Nodes.{area_of};
 ghost use Rattle.search_book.specs.Later.{IsLater};
-ghost use Rattle.search_book.specs.Counts.{due_size};
 ghost use Rattle.search_book.specs.Answers.{IsSettled, IsTakenAt};
 ghost use Rattle.search_run.specs.Opened.{IsLaterThanOpening};
-ghost use Rattle.search_run.specs.Steps.{HasClosed, IsLeft};
+ghost use Rattle.search_run.specs.Minds.{IsMindOf};
+ghost use Rattle.search_run.specs.Steps.{HasClosed, IsLeft, IsTaskIn};
 
-use crate::commit::{Half, Step, commit};
+use crate::commit::{Step, commit};
+use crate::many::Way;
+use crate::mind::Mind;
 use crate::think::think;
-use bound_tree::Row;
+use crate::thought::{Task, entered};
 use interval_box::IntervalBox;
 use search_book::{Book, laws};
 use std::alloc::Global;
@@ -24,9 +24,10 @@ pub fn settle(alloc: Global, book: &mut Book) -> Result<(), Memory>
     ensures job { book.new.job ≡ book.old.job }
     ensures later { IsLater book.old book.new }
 {
+    let mut mind = Mind::new(alloc, book.job())?;
     book.release_all();
     while let Some((n, area)) = book.take_first() {
-        work(alloc, book, n, &area)?;
+        work(alloc, book, &mut mind, n, &area)?;
     }
     laws::states_settle_where_none_waits();
     Ok(())
@@ -52,41 +53,45 @@ pub(crate) fn is_later_than_opening(_job: &Job, book: &Book)
     let _count = book.nodes();
 }
 
-/// Works on a Taken box, and on the halves that are kept of it, until one is closed.
-fn work(alloc: Global, book: &mut Book, n: u64, area: &IntervalBox) -> Result<(), Memory>
+/// Works on a Taken box, and on what is kept of it, until nothing is left of it.
+fn work(
+    alloc: Global,
+    book: &mut Book,
+    mind: &mut Mind,
+    n: u64,
+    area: &IntervalBox,
+) -> Result<(), Memory>
     requires taken { IsTakenAt book.old n area.now }
     requires of_job { IsBoxOf book.old.job area.now }
+    requires mind { IsMindOf book.old.job mind.old }
     ensures closed { OnOk result (HasClosed book.old n book.new) }
+    ensures mind { IsMindOf book.old.job mind.new }
     ensures later { IsLater book.old book.new }
 {
-    let mut left = turn(alloc, book, n, area, None)?;
-    while let Some(half) = left {
-        let Half { number, area, row } = half;
-        left = turn(alloc, book, number, &area, Some(row))?;
+    let mut left = turn(alloc, book, mind, entered(n, area, Way::First))?;
+    while let Some(task) = left {
+        left = turn(alloc, book, mind, task)?;
     }
     Ok(())
 }
 
-/// Works on a Taken box: closes it, or splits it and keeps a half. `kept` is a row of the box, where it is a half that
-/// was kept.
+/// Works on a Taken box for one stage: closes it, splits it and keeps a half, or goes on with what is left of it.
 fn turn(
     alloc: Global,
     book: &mut Book,
-    n: u64,
-    area: &IntervalBox,
-    kept: Option<Row>,
-) -> Result<Option<Half>, Memory>
-    requires taken { IsTakenAt book.old n area.now }
-    requires of_job { IsBoxOf book.old.job area.now }
-    requires fits { IfSome kept (λ row. Fits book.old.job area.now row) }
-    ensures left { IfOk result (IsLeft book.old n book.new) }
-    ensures due { OnOk result (due_size book.new < due_size book.old) }
+    mind: &mut Mind,
+    task: Task,
+) -> Result<Option<Task>, Memory>
+    requires task { IsTaskIn book.old task }
+    requires mind { IsMindOf book.old.job mind.old }
+    ensures left { IfOk result (IsLeft book.old task book.new) }
+    ensures mind { IsMindOf book.old.job mind.new }
     ensures later { IsLater book.old book.new }
 {
-    let thought = think(alloc, book.job(), area, book.best(), kept)?;
-    match commit(book, n, thought)? {
+    let thought = think(alloc, book.job(), mind, book.best(), &task)?;
+    match commit(book, task, thought)? {
         Step::Closed => Ok(None),
+        Step::Goes(next) => Ok(Some(next)),
         Step::Split { half, .. } => Ok(Some(half)),
-        Step::Short => unreachable!(),
     }
 }
