@@ -8,19 +8,9 @@
 
 mod answer;
 mod check;
-#[cfg(test)]
-mod check_rows;
-#[cfg(test)]
-mod failing_rows;
-#[cfg(test)]
-mod gate_tests;
 mod halt;
 mod input;
 mod job;
-#[cfg(test)]
-mod large_tests;
-#[cfg(test)]
-mod list_rows;
 mod make;
 mod needs;
 mod program;
@@ -28,13 +18,7 @@ mod reading;
 mod save;
 mod search;
 mod solve;
-#[cfg(test)]
-mod solve_rows;
-#[cfg(test)]
-mod tests;
 mod text;
-#[cfg(test)]
-mod word_tests;
 mod words;
 
 pub use answer::{Answer, Ended, Target};

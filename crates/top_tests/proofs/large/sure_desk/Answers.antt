@@ -1,7 +1,7 @@
 use Rattle.tqd_base.specs.World.{World, IsIdle}
 use Rattle.tqd_base.specs.Store.{IsEmptyWorld}
 use Rattle.tqd_base.specs.SureState.{sure_state}
-use Rattle.tqd_top.proofs.large_tests.sure_desk.Goals as goal
+use Rattle.top_tests.proofs.large.sure_desk.Goals as goal
 
 idle : (w : World) → IsEmptyWorld w → IsIdle w
 unfolding IsIdle

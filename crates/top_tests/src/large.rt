@@ -1,18 +1,10 @@
-//! Files that are made, and made jobs.
+//! Files that are made, and desks that are sure of their files.
 ghost use Rattle.std.specs.Prelude.{IfOk};
 ghost use Rattle.tqd_base.specs.World.{IsIdle};
-ghost use Rattle.tqd_base.specs.MemoryState.{memory_state};
 ghost use Rattle.tqd_base.specs.SureState.{sure_state};
-ghost use Rattle.tqd_top.specs.Certificate.{IsFinished};
 
-use crate::check::check_file;
-use crate::save::save_given;
-use crate::search::search;
-use crate::tests::{empty_desk, ran, set, words_of};
-use crate::{run, run_plain};
-use order_gen::make_job;
-use plan_report::{summary_text, usage_text};
-use search_book::Finished;
+use crate::runs::{empty_desk, ran, set, words_of};
+use plan_report::usage_text;
 use search_run::NoGate;
 use std::alloc::Global;
 use std::process::Abort;
@@ -20,8 +12,7 @@ use std::sync::Wait;
 use std::test::Fail;
 use std::thread::Threads;
 use tqd_base::{DeskCall, SureDesk};
-use tqd_instance::Job;
-use tree_checker::Verdict;
+use tqd_top::{run, run_plain};
 
 // Runs a line on a desk with these orders `o` and this file `f`, by both calls.
 fn check_files<R: Threads + Wait + Abort + Sync>(
@@ -184,42 +175,5 @@ fn takes_an_absent_file_for_an_empty_one(rt: HostRuntime) -> Result<(), Fail> {
     let mut other = sure_desk(alloc)?;
     assert_eq!(rt; run(&rt, alloc, &words, &mut other, &NoGate).status, 3);
     assert_eq!(rt; other.output(), desk.output());
-    Ok(())
-}
-
-// What a search of a job finds.
-fn found(alloc: Global, job: &Job) -> Result<Finished, Fail>
-    ensures { IfOk result (IsFinished job.now) }
-{
-    match search(alloc, job) {
-        Ok(done) => Ok(done),
-        Err(_) => Err("memory".into()),
-    }
-}
-
-// The cost that a search of a job finds, whose tree is saved and then accepted.
-fn cost_of(rt: &impl Abort, alloc: Global, job: &Job) -> Result<u128, Fail> {
-    let done = found(alloc, job)?;
-    let mut desk = empty_desk(alloc)?;
-    save_given(alloc, job, &done, &mut desk, Some("tree")).map_err(|_| "not saved")?;
-    let verdict = check_file(alloc, job, &mut desk, "tree").map_err(|_| "not read")?;
-    let Some((_, cost)) = done.plan else {
-        return Err("no purchase".into());
-    };
-    assert_eq!(rt; verdict, Verdict::Optimal(cost));
-    Ok(cost)
-}
-
-#[test]
-fn sums_up_a_made_job(rt: HostRuntime) -> Result<(), Fail> {
-    let alloc = rt.alloc();
-    let job = make_job(alloc, 7, 200, 4).map_err(|_| "memory")?;
-    let cost = cost_of(&rt, alloc, &job)?;
-    let text = summary_text(alloc, 7, 200, 4, cost).map_err(|_| "memory")?;
-    for plain in [true, false] {
-        let mut desk = empty_desk(alloc)?;
-        assert_eq!(rt; ran(&rt, alloc, plain, &mut desk, "make 7 200 4")?, 0);
-        assert_eq!(rt; desk.output(), text.as_slice());
-    }
     Ok(())
 }

@@ -1,5 +1,5 @@
 //! Needs, made jobs, and words of no form.
-use crate::tests::Row;
+use crate::runs::Row;
 
 const PRODUCTS: &str = "product,quantity\npump,40\nvalve,25\n";
 

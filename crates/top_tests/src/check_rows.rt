@@ -1,5 +1,5 @@
 //! Trees that are checked.
-use crate::tests::Row;
+use crate::runs::Row;
 
 const OFFERS: &str = "supplier,from,part,price\nA,1,r,0.10\nA,100,r,0.08\n";
 

@@ -1,7 +1,7 @@
 use Rattle.tqd_base.specs.World.{World, IsIdle}
 use Rattle.tqd_base.specs.Store.{IsEmptyWorld}
 use Rattle.tqd_base.specs.MemoryState.{memory_state}
-use Rattle.tqd_top.proofs.tests.empty_desk.Goals as goal
+use Rattle.top_tests.proofs.runs.empty_desk.Goals as goal
 
 idle : (w : World) → IsEmptyWorld w → IsIdle w
 unfolding IsIdle

@@ -4,7 +4,7 @@ use Rattle.tqd_base.specs.declared.memory.Memory.{Memory}
 use Rattle.tqd_base.specs.World.{State, Name, Bytes, IsIdle, set_file}
 use Rattle.tqd_base.specs.Told.{with_file}
 use Rattle.tqd_base.specs.MemoryState.{memory_state}
-use Rattle.tqd_top.proofs.tests.set.Goals as goal
+use Rattle.top_tests.proofs.runs.set.Goals as goal
 
 -- a file more opens no slot
 idle_with : (old : State) (name : Name) (bytes : Bytes) → IsIdle old.world → IsIdle (with_file old name bytes).world

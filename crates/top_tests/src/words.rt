@@ -1,6 +1,8 @@
-use crate::tests::words_of;
-use crate::{Command, JobFiles, read_words};
+//! Words, and the command that they are.
+
+use crate::runs::words_of;
 use std::test::Fail;
+use tqd_top::{Command, JobFiles, read_words};
 
 // The files `o` and `f`, with a bill and terms or without.
 const fn files(bill: Option<&'static str>, terms: Option<&'static str>) -> JobFiles<'static> {

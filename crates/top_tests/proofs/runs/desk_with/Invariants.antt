@@ -1,7 +1,7 @@
 -- No slot is open.
 use Rattle.tqd_base.specs.World.{IsIdle}
 use Rattle.tqd_base.specs.MemoryState.{memory_state}
-use Rattle.tqd_top.proofs.tests.desk_with.Given as goal
+use Rattle.top_tests.proofs.runs.desk_with.Given as goal
 
 abbrev pub invariant-loop-file : goal.invariant-loop-file
 invariant-loop-file l = IsIdle (memory_state l.desk).world

@@ -1,5 +1,5 @@
 //! Runs in which a call of the desk fails.
-use crate::tests::FailingRow;
+use crate::runs::FailingRow;
 use tqd_base::DeskCall;
 
 const OFFERS: &str = "supplier,from,part,price\nA,1,r,0.10\nA,100,r,0.08\n";

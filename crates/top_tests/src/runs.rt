@@ -7,7 +7,6 @@ use crate::check_rows::{FORMS, TREES};
 use crate::failing_rows::FAILING;
 use crate::list_rows::{NEEDS, WORDS};
 use crate::solve_rows::{EDGES, FAULTS, FILES, ONE_GOOD, TWO_GOODS, WORKERS};
-use crate::{run, run_plain};
 use search_run::NoGate;
 use std::alloc::Global;
 use std::process::Abort;
@@ -15,6 +14,7 @@ use std::sync::Wait;
 use std::test::Fail;
 use std::thread::Threads;
 use tqd_base::{DeskCall, Memory, MemoryDesk};
+use tqd_top::{run, run_plain};
 
 /// Lines of words that are run one after the other on a desk with these files, each by its name and its text: each ends with
 /// the status, and together they print the output.
@@ -66,7 +66,7 @@ pub(crate) fn set(desk: &mut MemoryDesk, name: &str, text: &str) -> Result<(), M
 }
 
 // A desk with these files.
-fn desk_with(alloc: Global, files: &[(&str, &str)]) -> Result<MemoryDesk, Fail>
+pub(crate) fn desk_with(alloc: Global, files: &[(&str, &str)]) -> Result<MemoryDesk, Fail>
     ensures { IfOk result (λ desk. IsIdle (memory_state desk).world) }
 {
     let mut desk = empty_desk(alloc)?;

@@ -1,10 +1,10 @@
 //! Two workers are in boxes at once, and one of them came by a ticket of the other's lane.
-use crate::run;
-use crate::tests::{empty_desk, set, words_of};
+use crate::runs::{empty_desk, set, words_of};
 use search_run::{Gate, Way};
 use std::sync::atomic::{AtomicBool, AtomicU64, Ordering};
 use std::test::Fail;
 use std::thread;
+use tqd_top::run;
 
 /// How often the worker that is held looks for another one.
 const TURNS: u32 = 10_000_000;
