@@ -1,5 +1,5 @@
 -- The values of prices of the goods in a climb.
-use Rattle.std.proofs.Common.{ℕ, ◌≡◌, ℤ, pos, ◌≤ℤ◌, List, Option, Some, None, subst, sym, arith}
+use Rattle.std.proofs.Common.{ℕ, ℤ, pos, ◌≤ℤ◌, List, Option, Some, None, subst, sym, arith}
 use Rattle.std.proofs.lemmas.Int.{ints}
 use Rattle.tqd_instance.specs.declared.job.Job.{Job}
 use Rattle.interval_box.specs.declared.boxes.IntervalBox.{IntervalBox}

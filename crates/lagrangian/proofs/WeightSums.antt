@@ -1,5 +1,5 @@
 -- The weights of the segments of a range are those of the columns.
-use Rattle.std.proofs.Common.{ℕ, suc, zero, ◌≡◌, ◌≢◌, ◌+◌, ◌-◌, ◌*◌, ◌<◌, ◌≤◌, ◌==◌, if◌then◌else◌, List, length, get_or, take, sum, refl, ap, sym, ◌∙◌, subst, ⊎_elim, add-one, arith}
+use Rattle.std.proofs.Common.{ℕ, suc, zero, ◌≡◌, ◌≢◌, ◌+◌, ◌-◌, ◌<◌, ◌≤◌, ◌==◌, if◌then◌else◌, List, length, get_or, take, sum, refl, ap, sym, ◌∙◌, ⊎_elim, add-one, arith}
 use Rattle.std.proofs.lemmas.Bool.{cases_eq, eq-eqb, ne_eqb}
 use Rattle.std.proofs.lemmas.List.{take_all}
 use Rattle.std.proofs.lemmas.List.Elements.{All-get_or}
@@ -11,7 +11,7 @@ use Rattle.interval_box.specs.declared.boxes.IntervalBox.{IntervalBox}
 use Rattle.interval_box.specs.Ranges.{low_of, high_of, IsBoxOf}
 use Rattle.lagrangian.specs.declared.bundle.Bundle.{Bundle}
 use Rattle.lagrangian.specs.declared.column.Column.{Column}
-use Rattle.lagrangian.specs.declared.weights.TheConstants.{COLUMNS_MAX, WHOLE}
+use Rattle.lagrangian.specs.declared.weights.TheConstants.{WHOLE}
 use Rattle.lagrangian.specs.Columns.{Mixture, no_column, column_at, weight_at, weight_in, IsSegmentIn, IsWhole}
 use Rattle.lagrangian.specs.Bundle.{mixture_at, AreWholeIn}
 use Rattle.lagrangian.proofs.Weighing.{sum_more}

@@ -1,9 +1,9 @@
-use Rattle.std.proofs.Common.{ℕ, ◌≡◌, ◌<◌, List, length, get_or, set, sum, ap, subst, sym, ◌∙◌, arith}
+use Rattle.std.proofs.Common.{◌≡◌, ◌<◌, length, sum, subst, sym, ◌∙◌, arith}
 use Rattle.std.proofs.lemmas.List.{length-set, get_or_read}
 use Rattle.tqd_instance.specs.Job.{suppliers}
 use Rattle.interval_box.specs.Ranges.{low_of, high_of}
 use Rattle.lagrangian.specs.declared.weights.TheConstants.{WHOLE}
-use Rattle.lagrangian.specs.PricingState.{units, least}
+use Rattle.lagrangian.specs.PricingState.{units}
 use Rattle.lagrangian.specs.Columns.{Mixture, no_mixture, AreWithin, AreCapsOf, AreSegmentsIn, IsSegmentIn, HasPlaces}
 use Rattle.lagrangian.proofs.Bundles.{AreWithin-sold, each_set, each_more}
 use Rattle.lagrangian.proofs.bundle.Bundle.add.Goals as goal

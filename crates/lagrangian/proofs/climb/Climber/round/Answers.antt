@@ -1,9 +1,9 @@
-use Rattle.std.proofs.Common.{◌≡◌, ℤ, List, subst, sym, refl, ◌∙◌, arith, rules}
+use Rattle.std.proofs.Common.{◌≡◌, ℤ, List, subst, sym, arith, rules}
 use Rattle.std.proofs.lemmas.Bool.{false≢true}
 use Rattle.std.proofs.lemmas.Int.{ints, to_z-of_z}
 use mir.Syntax.{w128}
 use mir.Val.{SFits, to_z, of_z}
-use Rattle.lagrangian.specs.Rounds.{IsBelow, IsBestValue}
+use Rattle.lagrangian.specs.Rounds.{IsBestValue}
 use Rattle.lagrangian.proofs.Rises.{IsBestValue-priced}
 use Rattle.lagrangian.proofs.climb.Climber.round.Goals as goal
 

@@ -1,4 +1,4 @@
-use Rattle.std.proofs.Common.{arith, ◌∙◌, ap, sum, subst, sym}
+use Rattle.std.proofs.Common.{◌∙◌, ap, sum, subst, sym}
 use Rattle.std.proofs.lemmas.List.{length-set}
 use Rattle.std.proofs.lemmas.List.Elements.{All-set}
 use Rattle.lagrangian.specs.declared.column.Column.{Column}

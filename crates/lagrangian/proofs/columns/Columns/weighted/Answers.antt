@@ -1,4 +1,4 @@
-use Rattle.std.proofs.Common.{arith, get_or, sym, ◌∙◌, ◌≤◌, ◌+◌, ◌*◌}
+use Rattle.std.proofs.Common.{arith, get_or, ◌+◌}
 use Rattle.std.proofs.lemmas.Nat.{mul-le}
 use Rattle.lagrangian.specs.declared.weights.TheConstants.{WHOLE}
 use Rattle.tqd_instance.proofs.SumLemmas.{sum_to-more}
