@@ -4,4 +4,6 @@
 #![tactic(auto)]
 
 #[cfg(test)]
+mod pricings;
+#[cfg(test)]
 mod repairs;
