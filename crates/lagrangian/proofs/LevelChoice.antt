@@ -1,5 +1,5 @@
 -- Which level balances offers with totals from low to high.
-use Rattle.std.proofs.Common.{ℕ, ◌≡◌, ◌<◌, ◌≤◌, ◌⊎◌, List, refl, ap, arith, inl, inr}
+use Rattle.std.proofs.Common.{ℕ, ◌≡◌, ◌<◌, ◌≤◌, List, refl, arith, inl, inr}
 use Rattle.std.proofs.lemmas.Bool.{cases_lt, cases_order}
 use Rattle.lagrangian.specs.declared.offer.TheConstants.{ZERO, TOP}
 use Rattle.lagrangian.specs.declared.offer.Offer.{Offer}
@@ -21,20 +21,16 @@ balanced_at_top offers low high few ordered =
     record { within = omega arith; from_low = omega arith; to_high = omega arith; all_below = omega arith; enough = inr (few, refl) }
 
 -- the level up to which low is reached is no less than ZERO
-pub balanced_up : (offers : List Offer) (low high level : ℕ) → low ≤ high → units_under ZERO offers < low → low ≤ units_under TOP offers
+pub balanced_up : (offers : List Offer) (low high level : ℕ) → low ≤ high → units_under ZERO offers < low
     → IsReached low (units_under level offers) (units_up_to level offers) level
     → IsBalanced (units_under level offers) (units_up_to level offers) low high level
-balanced_up offers low high level ordered few all reached =
-    let enough : low ≤ units_up_to level offers = enough_at reached.enough in
+balanced_up offers low high level ordered few reached =
+    let enough = reached.enough in
     let from = from_zero enough in
     let is = called from in
     let below = reached.too_few in
     record { within = reached.within; from_low = omega arith; to_high = omega arith; all_below = omega arith; enough = inl (omega arith) }
   where
-    enough_at : (low ≤ units_up_to level offers) ⊎ (level ≡ TOP) → low ≤ units_up_to level offers
-    enough_at (inl enough) = enough
-    enough_at (inr top) = absurd (omega (arith, reached.too_few, ap (λ l. units_under l offers) top))
-
     from_zero : low ≤ units_up_to level offers → ZERO ≤ level
     from_zero enough = elim (cases_lt level ZERO) [
       | inl under ↦ absurd (omega (arith, units_up_to-le-under level ZERO offers under))
@@ -57,7 +53,7 @@ pub balanced_down : (offers : List Offer) (low high level : ℕ) → low ≤ hig
 balanced_down offers low high level ordered many reached =
     let under : level < ZERO = below_zero in
     let is = filled-under (units_under level offers) low high level under in
-    let enough : high ≤ units_up_to level offers = enough_at under reached.enough in
+    let enough = reached.enough in
     let below = reached.too_few in
     record { within = reached.within; from_low = omega arith; to_high = omega arith; all_below = omega arith; enough = inl (omega arith) }
   where
@@ -66,7 +62,3 @@ balanced_down offers low high level ordered many reached =
       | inl under ↦ under
       | inr from ↦ absurd (omega (arith, units_under-mono ZERO level offers from, reached.too_few))
     ]
-
-    enough_at : level < ZERO → (high ≤ units_up_to level offers) ⊎ (level ≡ TOP) → high ≤ units_up_to level offers
-    enough_at under (inl enough) = enough
-    enough_at under (inr top) = absurd (omega arith)

@@ -197,4 +197,4 @@ window_long all wanted from to below len offers w size =
 -- the level that is looked for
 pub reached_at : (wanted top : ℕ) (all : List Offer) → top ≤ TOP → units_under top all < wanted → wanted ≤ units_under (top + 1) all
     → IsReached wanted (units_under top all) (units_up_to top all) top
-reached_at wanted top all within too_few enough = record { within = within; too_few = too_few; enough = inl (omega (arith, up_to_next top all)) }
+reached_at wanted top all within too_few enough = record { within = within; too_few = too_few; enough = omega (arith, up_to_next top all) }

@@ -60,8 +60,8 @@ pub record IsBalanced (below not_above low high level : ℕ) : Type 0 where
   pub all_below : below ≤ filled below low high level
   pub enough : (filled below low high level ≤ not_above) ⊎ ((below < low) × (level ≡ TOP))
 
--- the first level up to which so many units are reached, or TOP where there are fewer
+-- the first level up to which so many units are reached
 pub record IsReached (wanted below not_above level : ℕ) : Type 0 where
   pub within : level ≤ TOP
   pub too_few : below < wanted
-  pub enough : (wanted ≤ not_above) ⊎ (level ≡ TOP)
+  pub enough : wanted ≤ not_above

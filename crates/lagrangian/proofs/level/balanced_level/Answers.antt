@@ -37,5 +37,5 @@ returns-clause-level c =
             | else-low-below-via-then-low-below+else-below-high v ↦ omega (arith, v.if-below-high.false, w.if-high-below.false)
             | else-low-below-via-else-low-below v ↦ omega (arith, v.if-low-below.false)
           ] in
-          balanced_up old c.args.low c.args.high level (omega arith) few (omega (arith, c.if-units_under-low.false)) (rw w.level_reaching-is at reached))
+          balanced_up old c.args.low c.args.high level (omega arith) few (rw w.level_reaching-is at reached))
     ])
