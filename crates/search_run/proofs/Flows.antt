@@ -1,5 +1,4 @@
 -- The totals of the plan of a bound.
-use Rattle.std.proofs.Common.{ℕ}
 use Rattle.tqd_instance.specs.declared.job.Job.{Job}
 use Rattle.tqd_instance.specs.Purchase.{Purchase}
 use Rattle.interval_box.specs.declared.boxes.IntervalBox.{IntervalBox}

@@ -3,7 +3,7 @@ use Rattle.std.proofs.Common.{ℕ, Bool, true, false, arith}
 use Rattle.tqd_instance.specs.declared.job.Job.{Job}
 use Rattle.interval_box.specs.declared.boxes.IntervalBox.{IntervalBox}
 use Rattle.interval_box.specs.Ranges.{IsBoxOf}
-use Rattle.interval_box.specs.Halves.{IsProper, low_half, high_half}
+use Rattle.interval_box.specs.Halves.{IsProper}
 use Rattle.interval_box.proofs.Split.{low_is_box, high_is_box}
 use Rattle.bound_tree.specs.Narrowed.{IsPartOf}
 use Rattle.bound_tree.proofs.HalfParts.{are_parts}

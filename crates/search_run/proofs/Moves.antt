@@ -1,9 +1,7 @@
 -- A node that is Taken in the place of another one.
-use Rattle.std.proofs.Common.{ℕ, ◌≡◌, ◌≢◌, ◌<◌, ◌≤◌, ◌⊎◌, length, arith, refl, sym, subst, inl, inr}
-use Rattle.std.specs.Prelude.{◌↔◌}
+use Rattle.std.proofs.Common.{ℕ, ◌≡◌, ◌≢◌, ◌≤◌, ◌⊎◌, length, arith, refl, sym, subst, inl, inr}
 use Rattle.std.proofs.lemmas.Bool.{cases_eq}
 use Rattle.search_book.specs.BookState.{BookState}
-use Rattle.search_book.specs.Later.{IsLater}
 use Rattle.search_book.specs.Taken.{IsTaken, SameTaken, TakenWith, TakenWithout, TakenInPlace}
 use Rattle.search_run.specs.Steps.{Moves}
 

@@ -1,5 +1,5 @@
 -- What a bound says of a box, at a stage.
-use Rattle.std.proofs.Common.{ℕ, ◌<◌, Option, Result, Ok, Err, IfOk}
+use Rattle.std.proofs.Common.{◌<◌, Option, Result, Ok, Err, IfOk}
 use Rattle.tqd_base.specs.declared.memory.Memory.{Memory}
 use Rattle.tqd_instance.specs.declared.job.Job.{Job}
 use Rattle.interval_box.specs.declared.boxes.IntervalBox.{IntervalBox}

@@ -13,7 +13,6 @@ use Rattle.bound_tree.specs.Kills.{Kills}
 use Rattle.box_bound.specs.Bounded.{IsFlow}
 use Rattle.search_book.specs.Answers.{CanClose}
 use Rattle.search_run.specs.declared.thought.Offer.{Offer}
-use Rattle.search_run.specs.declared.thought.Branch.{Branch}
 use Rattle.search_run.specs.declared.thought.Cut.{Cut}
 use Rattle.search_run.specs.declared.thought.Act.{Act}
 use Rattle.search_run.specs.declared.thought.Act.TheVariants.{Stay, Kill, Reach, Solve, Trim, Split}

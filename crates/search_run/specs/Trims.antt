@@ -1,5 +1,5 @@
 -- Ends of suppliers' ranges that are split off a box.
-use Rattle.std.specs.Prelude.{ℕ, ◌≡◌, ◌<◌, List, [], ◌∷◌}
+use Rattle.std.specs.Prelude.{◌≡◌, ◌<◌, List, [], ◌∷◌}
 use Rattle.tqd_base.specs.declared.limits.TheConstants.{SUPPLIERS_MAX}
 use Rattle.tqd_instance.specs.declared.job.Job.{Job}
 use Rattle.interval_box.specs.declared.boxes.IntervalBox.{IntervalBox}

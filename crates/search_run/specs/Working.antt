@@ -1,5 +1,4 @@
 -- What a worker goes on with.
-use Rattle.std.specs.Prelude.{IfSome}
 use Rattle.tqd_instance.specs.declared.job.Job.{Job}
 use Rattle.interval_box.specs.Ranges.{IsBoxOf}
 use Rattle.search_run.specs.declared.thought.Task.{Task}

@@ -24,6 +24,7 @@ use tqd_instance::{Job, Plan};
 
 /// The step and the rounds of a climb after the flow of a box: rules of this program.
 const STEP: i64 = 1_000;
+
 const ROUNDS: u64 = 16;
 
 /// How far the weighted purchase is off at a supplier: what its weighted units cost in the segment of their total beyond
@@ -118,7 +119,8 @@ fn score(job: &Job, mind: &Mind, area: &IntervalBox, i: usize) -> i128
     if mind.climber.weighted_total(job, i) > 0 {
         cost = cost.saturating_add(i128::from(job.fee(i)).saturating_mul(i128::from(WHOLE)));
     }
-    cost.saturating_sub(mind.climber.weighted_cost(job, i)).max(0)
+    cost.saturating_sub(mind.climber.weighted_cost(job, i))
+        .max(0)
 }
 
 /// The split of a supplier's range at the segment of its weighted total, or at 0 in a gap, and the half that has the
@@ -196,13 +198,7 @@ fn branch_of(job: &Job, area: &IntervalBox, plan: &Plan, _row: &Row) -> Branch
 }
 
 /// A row that reaches the best cost, or else the row of a climb from it.
-fn raised(
-    alloc: Global,
-    job: &Job,
-    area: &IntervalBox,
-    row: Row,
-    best: u128,
-) -> Result<Row, Memory>
+fn raised(alloc: Global, job: &Job, area: &IntervalBox, row: Row, best: u128) -> Result<Row, Memory>
     requires of_job { IsBoxOf job.now area.now }
     requires fits { Fits job.now area.now row }
     ensures { IfOk result (Fits job.now area.now) }

@@ -132,10 +132,18 @@ fn cut_off(book: &mut Book, task: Task, cut: Cut) -> Result<Task, Memory>
         book.give_back(task.number);
         return Err(Memory);
     };
-    let (dead, number) = if low { (low_half, high_half) } else { (high_half, low_half) };
+    let (dead, number) = if low {
+        (low_half, high_half)
+    } else {
+        (high_half, low_half)
+    };
     bury(book, dead, leaf);
     match book.take(number) {
-        Take::Got(area) => Ok(Task { number, area, ..task }),
+        Take::Got(area) => Ok(Task {
+            number,
+            area,
+            ..task
+        }),
         Take::NotOpen(_) => unreachable!(),
     }
 }
@@ -155,7 +163,12 @@ fn bury(book: &mut Book, n: u64, leaf: Leaf)
 }
 
 /// Closes a Taken box by a row, where there is one that reaches the cost of the best plan, and else splits it.
-fn close_or_split(book: &mut Book, task: Task, bound: Option<Row>, branch: Branch) -> Result<Step, Memory>
+fn close_or_split(
+    book: &mut Book,
+    task: Task,
+    bound: Option<Row>,
+    branch: Branch,
+) -> Result<Step, Memory>
     requires task { IsTaskIn book.old task }
     requires fits { IfSome bound (Fits book.old.job task.area) }
     requires proper { IsProper task.area branch.supplier branch.at }

@@ -103,13 +103,7 @@ impl<'j> Hall<'j> {
 
     /// Writes a thought about the box of a task into the book, where the box is still Taken, and keeps the ticket of the
     /// half that it does not keep.
-    pub(crate) fn write<R: Wait>(
-        &self,
-        rt: &R,
-        kit: &mut Kit,
-        task: Task,
-        thought: Thought,
-    ) -> Next
+    pub(crate) fn write<R: Wait>(&self, rt: &R, kit: &mut Kit, task: Task, thought: Thought) -> Next
         requires task { IsTask self.now.job.now task }
         requires thought { IsThought self.now.job.now task.area task.stage thought }
         ensures { IsGoodFor self.now.job.now result }

@@ -64,7 +64,12 @@ impl Mind {
 
     /// A single box near these picks in a part of the box that the pricing is of. None where there is none, or where it
     /// was the last one that was tried.
-    pub(crate) fn near(&mut self, job: &Job, area: &IntervalBox, picks: &[u8]) -> Option<IntervalBox>
+    pub(crate) fn near(
+        &mut self,
+        job: &Job,
+        area: &IntervalBox,
+        picks: &[u8],
+    ) -> Option<IntervalBox>
         requires of_job { IsBoxOf job.now area.now }
         requires picks { suppliers job.now ≤ length picks.now }
         requires mind { IsMindOf job.now self.old }

@@ -14,7 +14,11 @@ use tqd_instance::Job;
 
 /// The leaf of a box whose suppliers sell more at least than may be bought: goods at -1 and places at 1. None where that
 /// row shows nothing.
-pub(crate) fn lows_leaf(alloc: Global, job: &Job, area: &IntervalBox) -> Result<Option<Leaf>, Memory>
+pub(crate) fn lows_leaf(
+    alloc: Global,
+    job: &Job,
+    area: &IntervalBox,
+) -> Result<Option<Leaf>, Memory>
     requires { IsBoxOf job.now area.now }
     ensures { IfOk result (λ leaf. IfSome leaf (Kills job.now area.now None)) }
 {

@@ -76,12 +76,7 @@ fn work(
 }
 
 /// Works on a Taken box for one stage: closes it, splits it and keeps a half, or goes on with what is left of it.
-fn turn(
-    alloc: Global,
-    book: &mut Book,
-    mind: &mut Mind,
-    task: Task,
-) -> Result<Option<Task>, Memory>
+fn turn(alloc: Global, book: &mut Book, mind: &mut Mind, task: Task) -> Result<Option<Task>, Memory>
     requires task { IsTaskIn book.old task }
     requires mind { IsMindOf book.old.job mind.old }
     ensures left { IfOk result (IsLeft book.old task book.new) }

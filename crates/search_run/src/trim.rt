@@ -44,14 +44,23 @@ impl Trim {
     }
 
     /// Splits an end off, which a leaf closes.
-    pub(crate) fn cut(&mut self, _job: &Job, _area: &IntervalBox, end: &End, leaf: Leaf) -> Result<(), Memory>
+    pub(crate) fn cut(
+        &mut self,
+        _job: &Job,
+        _area: &IntervalBox,
+        end: &End,
+        leaf: Leaf,
+    ) -> Result<(), Memory>
         requires trim { IsTrimOf _job.now _area.now self.old }
         requires end { IsEndOf _job.now _area.now self.old.rest end.now }
         requires leaf { CanClose _job.now end.now.dead leaf }
         ensures { IfOk result (λ _. IsTrimOf _job.now _area.now self.new) }
     {
         let &End {
-            supplier, at, low, ..
+            supplier,
+            at,
+            low,
+            ..
         } = end;
         self.cuts.push(Cut {
             supplier,
@@ -76,7 +85,13 @@ impl Trim {
     }
 
     /// The segments at the low end of a supplier's range that are in a set, as far as they leave one.
-    pub(crate) fn low_end(&self, job: &Job, area: &IntervalBox, i: usize, dying: Segments) -> Option<End>
+    pub(crate) fn low_end(
+        &self,
+        job: &Job,
+        area: &IntervalBox,
+        i: usize,
+        dying: Segments,
+    ) -> Option<End>
         requires trim { IsTrimOf job.now area.now self.now }
         requires supplier { i < suppliers job.now }
         ensures { IfSome result (IsEndOf job.now area.now self.now.rest) }
@@ -87,7 +102,13 @@ impl Trim {
     }
 
     /// The segments at the high end of a supplier's range that are in a set, as far as they leave one.
-    pub(crate) fn high_end(&self, job: &Job, area: &IntervalBox, i: usize, dying: Segments) -> Option<End>
+    pub(crate) fn high_end(
+        &self,
+        job: &Job,
+        area: &IntervalBox,
+        i: usize,
+        dying: Segments,
+    ) -> Option<End>
         requires trim { IsTrimOf job.now area.now self.now }
         requires supplier { i < suppliers job.now }
         ensures { IfSome result (IsEndOf job.now area.now self.now.rest) }

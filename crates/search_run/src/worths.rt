@@ -48,13 +48,7 @@ pub(crate) fn cut_by_worths(
 }
 
 /// The segments of a supplier's range that no purchase cheaper than the best one picks.
-fn dear_segments(
-    job: &Job,
-    pricing: &Pricing,
-    area: &IntervalBox,
-    best: u128,
-    i: usize,
-) -> Segments
+fn dear_segments(job: &Job, pricing: &Pricing, area: &IntervalBox, best: u128, i: usize) -> Segments
     requires of_job { IsBoxOf job.now area.now }
     requires made { IsMadeFor job.now pricing.now }
     requires supplier { i < suppliers job.now }
