@@ -19,6 +19,7 @@ ghost use Rattle.lagrangian.specs.Columns.{
 };
 
 use crate::column::Column;
+use crate::means::{mean, weighed};
 use crate::trial::Trial;
 use crate::weights::{COLUMNS_MAX, WHOLE, Weights};
 use std::alloc::Global;
@@ -75,15 +76,6 @@ fn places(alloc: Global, caps: &Numbers) -> Result<Vec<Column>, Memory>
         })?;
     }
     Ok(list)
-}
-
-/// The rounded mean of two numbers by their weights.
-fn mean(x: u64, v: u64, y: u64, w: u64) -> u64
-    ensures { (n : ℕ) → x ≤ n → y ≤ n → result ≤ n }
-{
-    let whole = v.wrapping_add(w).max(1);
-    let sum = x.wrapping_mul(v).wrapping_add(y.wrapping_mul(w));
-    (sum.wrapping_add(whole / 2) / whole).min(x.max(y))
 }
 
 impl Columns {
@@ -503,9 +495,4 @@ impl Columns {
         }
         sum
     }
-}
-
-/// A cost times a weight.
-pub(crate) fn weighed(cost: i128, weight: u64) -> i128 {
-    cost.wrapping_mul(i128::from(weight))
 }

@@ -28,6 +28,7 @@ mod gather;
 mod goods;
 mod lack;
 mod level;
+mod means;
 mod offer;
 mod place;
 mod pricing;
