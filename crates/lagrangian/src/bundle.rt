@@ -96,7 +96,8 @@ impl Bundle {
         }
     }
 
-    /// Adds, for each supplier, the cheapest units of a pricing as a column. The weights of each supplier are then a whole.
+    /// Adds, for each supplier, the cheapest units of a pricing as a column. The weights of each supplier are then a
+    /// whole.
     pub(crate) fn add(&mut self, job: &Job, area: &IntervalBox, pricing: &Pricing)
         requires of_job { IsBoxOf job.now area.now }
         requires made { IsBundleOf job.now self.old }

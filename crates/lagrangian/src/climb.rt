@@ -49,9 +49,9 @@ pub enum Climb {
 }
 
 /// Raises prices of the goods towards the best bound of a box by a proximal bundle (Kiwiel 1990; Frangioni 2002): from
-/// the prices that are best so far it goes one step along what a mixture of purchases lacks of the needs, and mixes anew
-/// with the cheapest purchases at the prices that it tried. The prices, the step and the columns that are mixed stay
-/// from box to box. All memory is taken when it is made.
+/// the prices that are best so far it goes one step along what a mixture of purchases lacks of the needs, and mixes
+/// anew with the cheapest purchases at the prices that it tried. The prices, the step and the columns that are mixed
+/// stay from box to box. All memory is taken when it is made.
 #[derive(Debug, Drop)]
 pub struct Climber {
     goods: Vec<i64>,
@@ -77,8 +77,8 @@ impl Climber {
         })
     }
 
-    /// Raises the prices of the goods until their value in the box is at least the target, or little is gained. It takes
-    /// no memory. At its end the pricing is that of the climber's prices in the box.
+    /// Raises the prices of the goods until their value in the box is at least the target, or little is gained. It
+    /// takes no memory. At its end the pricing is that of the climber's prices in the box.
     pub fn climb(
         &mut self,
         job: &Job,
@@ -198,8 +198,8 @@ impl Climber {
         requires { All IsGoodPrice self.old.tried.items }
         ensures goods { self.new.goods ≡ self.old.goods }
         ensures made { (job : Job) → IsClimberOf job self.old → IsClimberOf job self.new }
-        ensures whole { (job : Job) (area : IntervalBox) → IsClimberOf job self.old → AreWholeIn job area self.old.bundle
-            → AreWholeIn job area self.new.bundle }
+        ensures whole { (job : Job) (area : IntervalBox) → IsClimberOf job self.old
+            → AreWholeIn job area self.old.bundle → AreWholeIn job area self.new.bundle }
     {
         let pace = Pace {
             step: self.step,

@@ -28,7 +28,7 @@ use tqd_base::Memory;
 use tqd_base::limits::QTY_MAX;
 use tqd_instance::{Job, Numbers};
 
-/// The columns of a supplier, each with its weight in the mixture of them. All their memory is taken when they are made.
+/// The columns of a supplier, each with its weight in the mixture of them. Their memory is taken when they are made.
 #[derive(Debug, Drop)]
 pub(crate) struct Columns {
     caps: Numbers,
@@ -148,8 +148,8 @@ impl Columns {
         }
     }
 
-    /// Adds a purchase as a column, with the weight that all columns lack of a whole: the first one has all of it, and a
-    /// later one has none. It takes the place of another where none is free, whose reduced cost at the prices of the
+    /// Adds a purchase as a column, with the weight that all columns lack of a whole: the first one has all of it, and
+    /// a later one has none. It takes the place of another where none is free, whose reduced cost at the prices of the
     /// goods goes on in a merged column.
     pub(crate) fn add(&mut self, segment: u8, cost: i128, units: &[u64], prices: &[i64])
         requires { AreWithin self.old.caps units.now }
@@ -203,8 +203,8 @@ impl Columns {
         at
     }
 
-    /// A place for another column: a free one, or that of the oldest column without weight, or that of one of the two of
-    /// least weight together, which are merged.
+    /// A place for another column: a free one, or that of the oldest column without weight, or that of one of the two
+    /// of least weight together, which are merged.
     fn room(&mut self, prices: &[i64]) -> usize
         ensures place { result < COLUMNS_MAX }
         ensures kept { Keeps self.old self.new }
@@ -277,8 +277,8 @@ impl Columns {
         }
     }
 
-    /// Moves weight from the column of the greatest reduced cost to that of the least, as much as is best for the prices
-    /// that are tried, and answers by how much the two differed.
+    /// Moves weight from the column of the greatest reduced cost to that of the least, as much as is best for the
+    /// prices that are tried, and answers by how much the two differed.
     pub(crate) fn step(&mut self, trial: &mut Trial) -> i128
         ensures { Keeps self.old self.new }
     {

@@ -20,8 +20,8 @@ const COARSE_MAX: u32 = 60;
 /// The greatest step.
 const STEP_MAX: u64 = 17_592_186_044_416;
 
-/// What a step is worth: `step * 2^-coarse` millionths of the currency for each unit that a good lacks, where prices have
-/// `fine` bits more than millionths.
+/// What a step is worth: `step * 2^-coarse` millionths of the currency for each unit that a good lacks, where prices
+/// have `fine` bits more than millionths.
 #[derive(Clone, Copy, Debug)]
 pub(crate) struct Pace {
     pub step: u64,
@@ -48,8 +48,8 @@ impl Pace {
         }
     }
 
-    /// A price of the climb one step from its centre, where a good lacks so many weighed units; a price below 0 takes up
-    /// the `room` units that may be bought beyond the need.
+    /// A price of the climb one step from its centre, where a good lacks so many weighed units; a price below 0 takes
+    /// up the `room` units that may be bought beyond the need.
     pub(crate) fn price(self, centre: i64, lack: i64, room: u64) -> i64 {
         let mut price = i128::from(centre).wrapping_add(self.weighed(lack));
         if price < 0 {

@@ -12,7 +12,8 @@ use tqd_base::Memory;
 use tqd_instance::Job;
 
 /// A good in a climb: the units that have to be bought of it, and how many more may be; its price at the centre of the
-/// climb and the price that is tried, in prices of the climb; and the units that the mixture lacks of the need, weighed.
+/// climb and the price that is tried, in prices of the climb; and the units that the mixture lacks of the need,
+/// weighed.
 #[derive(Clone, Copy, Debug)]
 struct Quote {
     need: u64,

@@ -9,8 +9,8 @@ pub const COLUMNS_MAX: usize = 6;
 /// A whole weight, 2^30.
 pub const WHOLE: u64 = 1_073_741_824;
 
-/// How much of a mixture each of a supplier's columns is, in parts of `WHOLE`: by the places of the columns, and together
-/// no more than a whole.
+/// How much of a mixture each of a supplier's columns is, in parts of `WHOLE`: by the places of the columns, and
+/// together no more than a whole.
 #[derive(Debug, Drop)]
 pub(crate) struct Weights {
     items: [u64; 6],
