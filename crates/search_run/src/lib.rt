@@ -1,13 +1,18 @@
 //! The search for a least purchase of a job, on one thread and by several workers.
 //!
-//! A worker thinks about a box without a look at the book (`think`): it bounds the box (`box_bound`), judges the plan of
-//! the bound, and chooses the split (`branching`). What it thought is then written into the book (`commit`): the plan is
-//! offered, and the box is closed by a row whose value reaches the cost of the best plan, or split. The half that is kept
-//! is worked on next, and its search for prices begins from the row of the box that was split.
+//! A worker thinks about a box without a look at the book (`think`), stage by stage: tests of winners and totals and a
+//! first plan, cuts of ranges, a climb of the goods' prices (`lagrangian`), tries of plans near what the climb found, cuts
+//! of segments that can't pay, and the split, or else a bound by a flow (`box_bound`, `branching`, `price_climb`). What it
+//! thought is then written into the book (`commit`): a plan is offered, and the box is closed by a row whose value reaches
+//! the cost of the best plan, or by a leaf that kills it; ends of ranges are split off and closed; or the box is split. The
+//! half that is kept is worked on next. Prices of the goods and columns go on from box to box (`mind`).
+//!
+//! All that finds rows, plans, cuts and splits is advice: what is brought to the book is tested where it is made or where
+//! it is written.
 //!
 //! `settle` does both on the caller's thread until the book has a verdict: no node is Open or Taken. `search_one` opens a
-//! book and settles it. Both always return: a number that every closed or split box lowers falls in each turn
-//! (`due_size` of the book). Whatever `settle` answers, the book is later than before: what was split or closed stays so,
+//! book and settles it. Both always return: each stage lowers the size that is due in the book (`due_size`), or leaves it
+//! and has fewer stages to follow. Whatever `settle` answers, the book is later than before: what was split or closed stays so,
 //! and the best plan costs no more. Without memory a second `settle` goes on from there.
 //!
 //! `search_many` has workers round one lock, whose value is the book. They find boxes by the tickets of lanes
