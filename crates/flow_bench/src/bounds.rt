@@ -1,68 +1,56 @@
-//! A made job, and the bound of its root.
+//! The bound of the root of a made job.
 
-ghost use Rattle.std.specs.Prelude.{IfOk};
+ghost use Rattle.std.specs.Prelude.{IfSome};
+ghost use Rattle.bound_tree.specs.Prices.{Fits};
+ghost use Rattle.interval_box.specs.Ranges.{IsBoxOf};
+ghost use Rattle.box_bound.specs.Bounded.{IsBounded};
 
-use crate::{Draws, PRICES, need};
-use box_bound::{Bounded, bound};
+use bound_tree::Row;
+use box_bound::Bounded;
 use interval_box::IntervalBox;
+use order_gen::make_job;
 use std::alloc::Global;
-use tqd_base::{Memory, Stop};
-use tqd_instance::{Job, JobParts, PriceRow};
+use tqd_base::Memory;
+use tqd_instance::Job;
 
-/// How many suppliers, goods and intervals of a supplier are made, and how long an interval is.
-pub const SUPPLIERS: u32 = 20;
+/// How many suppliers and goods the job has; each supplier has three intervals.
+pub const SUPPLIERS: u64 = 64;
 
-pub const GOODS: u32 = 100;
+pub const GOODS: u64 = 1_000;
 
-pub const INTERVALS: u64 = 5;
+const SEED: u64 = 11;
 
-const STEP: u64 = 50_000;
-
-// The offers of a supplier: of each good, for less in each interval than in the one before.
-fn add_offers(parts: &mut JobParts, supplier: u32, draws: &mut Draws) -> Result<(), Memory> {
-    for good in 0..GOODS {
-        let price = 1 + draws.below(PRICES);
-        for interval in 0..INTERVALS {
-            parts.add_price(PriceRow {
-                supplier,
-                from: 1 + interval * STEP,
-                good,
-                price: price - price / 20 * interval,
-            })?;
-        }
-    }
-    Ok(())
+/// The job of a seed.
+pub fn made_job(alloc: Global) -> Result<Job, Memory> {
+    make_job(alloc, SEED, GOODS, SUPPLIERS)
 }
 
-/// A job, or none where the parts that are made are not those of one.
-pub fn made_job(alloc: Global) -> Result<Option<Job>, Memory> {
-    let mut parts = JobParts::new(alloc, SUPPLIERS)?;
-    for good in 0..GOODS {
-        parts.add_need(need(good))?;
-    }
-    let mut draws = Draws { state: 11 };
-    for supplier in 0..SUPPLIERS {
-        add_offers(&mut parts, supplier, &mut draws)?;
-    }
-    if !parts.is_well_formed(alloc)? {
-        return Ok(None);
-    }
-    match Job::build(alloc, &parts) {
-        Ok(job) => Ok(Some(job)),
-        Err(Stop::Refused(_)) => Ok(None),
-        Err(Stop::Memory) => Err(Memory),
+/// Whether the relaxed cost of a bound is what its row shows that none is below.
+pub fn is_tight(job: &Job, area: &IntervalBox, bounded: &Bounded) -> bool
+    requires of_job { IsBoxOf job.now area.now }
+    requires bounded { IsBounded job.now area.now bounded.now }
+{
+    match bounded {
+        Bounded::Flow {
+            plan: _plan,
+            relaxed,
+            row,
+        } => i128::try_from(*relaxed) == Ok(row.value(job, area)),
+        Bounded::Empty(_row) => false,
     }
 }
 
-/// What the bound of the job's root is.
-pub fn root_bound(alloc: Global, job: &Job) -> Result<&'static str, Memory> {
-    let root = IntervalBox::root(job);
-    match bound(alloc, job, &root)? {
+/// The row of prices of a bound, if the box has a relaxed purchase.
+pub fn row_of(_job: &Job, _area: &IntervalBox, bounded: Bounded) -> Option<Row>
+    requires { IsBounded _job.now _area.now bounded }
+    ensures { IfSome result (λ row. Fits _job.now _area.now row) }
+{
+    match bounded {
         Bounded::Flow {
             plan: _plan,
             relaxed: _relaxed,
-            row: _row,
-        } => Ok("a relaxed purchase"),
-        Bounded::Empty(_row) => Ok("none"),
+            row,
+        } => Some(row),
+        Bounded::Empty(_row) => None,
     }
 }

@@ -1,29 +1,43 @@
 //! Times the cheapest circulation on made nets of the shape that a bound has, a hub, suppliers and goods, and the bound
-//! of the root of a made job.
+//! of the root of a made job, each from zeros and from other numbers.
 //!
-//! It prints on standard output which nets have a circulation, and what the bound is, the same in every run, and on
-//! standard error how long each took.
+//! It prints on standard output what was found, and whether its cost is the least by a second computation, the same in
+//! every run; and on standard error how long each took.
 #![tactic(auto)]
 
 ghost use Rattle.std.specs.Prelude.{◌+◌, ◌≤◌};
+ghost use Rattle.flow_prices.specs.Prices.{AreStart};
 
 mod bounds;
+mod least;
+mod nets;
 
-use crate::bounds::{GOODS, INTERVALS, SUPPLIERS, made_job, root_bound};
-use flow_prices::{Priced, cheapest};
-use mcf_lower::{ARCS_MAX, NODES_MAX, Net, NetArc};
+use crate::bounds::{GOODS, SUPPLIERS, is_tight, made_job, row_of};
+use crate::least::{cost, least_cost, start_of};
+use crate::nets::{Shape, Totals, made_net};
+use box_bound::{bound, bound_from};
+use flow_prices::{NumberList, Priced, cheapest_from};
+use interval_box::IntervalBox;
+use mcf_lower::Net;
 use std::alloc::Global;
 use std::io;
 use std::time::Instant;
-use tqd_base::Memory;
 
 /// The greatest units on an arc and the greatest price that are made.
 const UNITS: u64 = 100_000;
 
 const PRICES: u64 = 100_000_000;
 
-/// One more than the greatest bound of an arc that is made.
-const FLOWS: u64 = 10_000_000_000;
+const SHAPES: [Shape; 2] = [
+    Shape {
+        suppliers: 20,
+        goods: 100,
+    },
+    Shape {
+        suppliers: 64,
+        goods: 1_000,
+    },
+];
 
 /// A linear congruential generator, after Knuth's MMIX.
 #[derive(Clone, Copy, Debug, PartialEq, Eq)]
@@ -45,37 +59,6 @@ impl Draws {
     }
 }
 
-/// How large a net is made, and how close the suppliers' limits lie to what has to be bought, in hundredths.
-#[derive(Clone, Copy, Debug, PartialEq, Eq)]
-struct Shape {
-    suppliers: u32,
-    goods: u32,
-    slack: u64,
-}
-
-const SHAPES: [Shape; 4] = [
-    Shape {
-        suppliers: 20,
-        goods: 100,
-        slack: 10_000,
-    },
-    Shape {
-        suppliers: 20,
-        goods: 100,
-        slack: 2,
-    },
-    Shape {
-        suppliers: 64,
-        goods: 1_000,
-        slack: 10_000,
-    },
-    Shape {
-        suppliers: 64,
-        goods: 1_000,
-        slack: 2,
-    },
-];
-
 // How many units of a good have to be bought.
 fn need(good: u32) -> u64 {
     let mut draws = Draws {
@@ -85,124 +68,106 @@ fn need(good: u32) -> u64 {
     1 + draws.below(UNITS)
 }
 
-// How many units have to be bought of each supplier, if all sell as much.
-fn share(shape: &Shape) -> u64 {
-    let mut sum = 0u64;
-    for good in 0..shape.goods {
-        sum = sum.saturating_add(need(good));
+// Finds a cheapest circulation from these numbers, prints what it is, and gives its numbers.
+fn run(
+    rt: &HostRuntime,
+    net: &Net,
+    name: &str,
+    start: &NumberList,
+) -> io::Result<Option<NumberList>>
+    requires { AreStart net.now start.now }
+{
+    let begin = Instant::now(rt)?;
+    let answer = cheapest_from(rt.alloc(), net, start);
+    let took = begin.elapsed(rt)?.as_micros();
+    eprintln!(rt; "{name}: {took} us")?;
+    match answer {
+        Ok(Priced::Flow { flow, numbers }) => {
+            let is_least = cost(net, &flow) == least_cost(net, &numbers);
+            println!(rt; "{name}: a circulation, cheapest: {is_least}")?;
+            Ok(Some(numbers))
+        }
+        Ok(Priced::Cut(_)) => {
+            println!(rt; "{name}: a cut")?;
+            Ok(None)
+        }
+        Err(_) => {
+            println!(rt; "{name}: out of memory")?;
+            Ok(None)
+        }
     }
-    sum / u64::from(shape.suppliers.max(1))
 }
 
-// Adds an arc, where it is one.
-fn add(net: &mut Net, ends: (u32, u32), bounds: (u64, u64), price: u64) -> Result<(), Memory> {
-    let (tail, head) = ends;
-    let low = (bounds.0 % FLOWS) as i64;
-    let cap = (bounds.1 % FLOWS) as i64;
-    let cost = (price % PRICES) as i64;
-    if tail < net.nodes() && head < net.nodes() && low <= cap && net.arcs() < ARCS_MAX {
-        net.add(NetArc {
-            tail,
-            head,
-            low,
-            cap,
-            cost,
-        })?;
-    }
-    Ok(())
-}
-
-// The arc of a supplier's total, and an arc for each good.
-fn add_supplier(
-    net: &mut Net,
+// The net of this shape and these totals, from zeros and from the numbers of the first net of the shape.
+fn run_totals(
+    rt: &HostRuntime,
     shape: &Shape,
-    supplier: u32,
-    draws: &mut Draws,
-) -> Result<(), Memory> {
-    let share = share(shape);
-    let cap = share.saturating_add(share.saturating_mul(shape.slack) / 100);
-    let node = supplier.saturating_add(1);
-    add(net, (0, node), (share / 2, cap), 0)?;
-    for good in 0..shape.goods {
-        let stock = (need(good) / 4).saturating_add(draws.below(UNITS));
-        let head = shape.suppliers.saturating_add(1).saturating_add(good);
-        add(net, (node, head), (0, stock), 1 + draws.below(PRICES))?;
+    totals: Totals,
+    kept: &mut Vec<i64>,
+) -> io::Result<()> {
+    let alloc = rt.alloc();
+    let Shape { suppliers, goods } = *shape;
+    let Ok(Some(net)) = made_net(alloc, shape, totals) else {
+        return println!(rt; "no net");
+    };
+    let Ok(zeros) = start_of(alloc, &net, &[]) else {
+        return println!(rt; "out of memory");
+    };
+    let Ok(name) = format!(in alloc; "{suppliers} suppliers, {goods} goods, {totals:?}") else {
+        return println!(rt; "out of memory");
+    };
+    let numbers = run(rt, &net, &name, &zeros)?;
+    if let (Some(numbers), true) = (numbers, kept.is_empty()) {
+        *kept = numbers.into_vec();
     }
+    let Ok(start) = start_of(alloc, &net, kept) else {
+        return println!(rt; "out of memory");
+    };
+    let Ok(name) = format!(in alloc; "{name}, from other numbers") else {
+        return println!(rt; "out of memory");
+    };
+    run(rt, &net, &name, &start)?;
     Ok(())
 }
 
-// A net of this shape: node 0 is the hub, then come the suppliers, then the goods.
-fn made(alloc: Global, shape: &Shape) -> Result<Net, Memory> {
-    let nodes = shape
-        .suppliers
-        .saturating_add(shape.goods)
-        .saturating_add(1);
-    let mut net = Net::new(alloc, nodes.min(NODES_MAX))?;
-    let mut draws = Draws { state: 7 };
-    for supplier in 0..shape.suppliers {
-        add_supplier(&mut net, shape, supplier, &mut draws)?;
-    }
-    for good in 0..shape.goods {
-        let tail = shape.suppliers.saturating_add(1).saturating_add(good);
-        let need = need(good);
-        add(
-            &mut net,
-            (tail, 0),
-            (need, need.saturating_add(need / 20)),
-            0,
-        )?;
-    }
-    Ok(net)
-}
-
-// What an answer is.
-fn name(priced: &Priced) -> &'static str {
-    match priced {
-        Priced::Flow { .. } => "a circulation",
-        Priced::Cut(_) => "a cut",
-    }
+// The bound of the root of the made job, from zeros and from its own prices.
+fn run_root(rt: &HostRuntime) -> io::Result<()> {
+    let alloc = rt.alloc();
+    let Ok(job) = made_job(alloc) else {
+        return println!(rt; "out of memory");
+    };
+    let root = IntervalBox::root(&job);
+    println!(rt; "the root of a made job of {SUPPLIERS} suppliers and {GOODS} goods")?;
+    let begin = Instant::now(rt)?;
+    let bounded = bound(alloc, &job, &root);
+    let took = begin.elapsed(rt)?.as_micros();
+    eprintln!(rt; "the bound of the root: {took} us")?;
+    let Ok(bounded) = bounded else {
+        return println!(rt; "out of memory");
+    };
+    println!(rt; "from zeros, tight: {}", is_tight(&job, &root, &bounded))?;
+    let Some(row) = row_of(&job, &root, bounded) else {
+        return println!(rt; "no purchase");
+    };
+    let begin = Instant::now(rt)?;
+    let bounded = bound_from(alloc, &job, &root, &row);
+    let took = begin.elapsed(rt)?.as_micros();
+    eprintln!(rt; "the same from its prices: {took} us")?;
+    let Ok(bounded) = bounded else {
+        return println!(rt; "out of memory");
+    };
+    println!(rt;
+        "from its prices, tight: {}",
+        is_tight(&job, &root, &bounded)
+    )
 }
 
 fn main(rt: HostRuntime) -> io::Result<()> {
     for shape in SHAPES {
-        let alloc = rt.alloc();
-        let Ok(net) = made(alloc, &shape) else {
-            return println!(rt; "out of memory");
-        };
-        let start = Instant::now(&rt)?;
-        let answer = cheapest(alloc, &net);
-        let took = start.elapsed(&rt)?;
-        let Ok(priced) = answer else {
-            return println!(rt; "out of memory");
-        };
-        let suppliers = shape.suppliers;
-        let goods = shape.goods;
-        let slack = shape.slack;
-        println!(rt;
-            "{suppliers} suppliers, {goods} goods, slack {slack}: {}",
-            name(&priced)
-        )?;
-        eprintln!(rt;
-            "{suppliers} suppliers, {goods} goods, slack {slack}: {} us",
-            took.as_micros()
-        )?;
+        let mut kept = Vec::new(rt.alloc());
+        for totals in [Totals::Loose, Totals::Close, Totals::Segment] {
+            run_totals(&rt, &shape, totals, &mut kept)?;
+        }
     }
-    let alloc = rt.alloc();
-    let Ok(Some(job)) = made_job(alloc) else {
-        return println!(rt; "no job");
-    };
-    let start = Instant::now(&rt)?;
-    let answer = root_bound(alloc, &job);
-    let took = start.elapsed(&rt)?;
-    let Ok(found) = answer else {
-        return println!(rt; "out of memory");
-    };
-    println!(rt;
-        "the root of {SUPPLIERS} suppliers, {GOODS} goods, {INTERVALS} intervals: {found}"
-    )?;
-    eprintln!(rt;
-        "the root of {SUPPLIERS} suppliers, {GOODS} goods, {INTERVALS} intervals: {} us",
-        took.as_micros()
-    )?;
-    Ok(())
+    run_root(&rt)
 }

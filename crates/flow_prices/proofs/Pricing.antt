@@ -6,7 +6,7 @@ use Rattle.mcf_lower.specs.Net.{Network, IsNetwork, arc_of}
 use Rattle.mcf_lower.specs.Circulation.{Fits}
 use Rattle.mcf_lower.specs.Answers.{units_of, IsPricedFlow}
 use Rattle.flow_prices.specs.Narrow.{AreNarrowed}
-use Rattle.flow_prices.specs.Prices.{greatest_to, greatest_cost, number_of, AreLess, IsPriced}
+use Rattle.flow_prices.specs.Prices.{greatest_to, greatest_cost, number_of, AreLess, AreNear, IsPriced}
 
 pub greatest_to-more : (n : ℕ) (f : ℕ → ℕ) → greatest_to (n + 1) f ≡ max (greatest_to n f) (f n)
 greatest_to-more n f = let e : n + 1 ≡ suc n = omega arith in ap (λ x. greatest_to x f) e
@@ -71,6 +71,32 @@ IsPriced-made net flow numbers narrowed lowered n s w d =
       least = λ v h. omega (arith, ints, d.each v (omega arith), bound v h);
       most = λ v h. omega (arith, ints, d.each v (omega arith), bound v h);
     }
+
+-- numbers that fit still do less the first of them
+pub Fits-lowered : (net : Network) (flow : ℕ → ℕ) (numbers : List ℕ) (lowered : List ℤ) → IsNetwork net → length numbers ≡ net.nodes
+    → Fits net flow (λ v. pos (get_or numbers v 0)) → AreLess numbers lowered → Fits net flow (number_of lowered)
+Fits-lowered net flow numbers lowered n s f d = record {
+  low = λ a l r.
+      let e = d.each (arc_of net a).tail (omega (arith, (n.each a l).tail)) in
+      let g = d.each (arc_of net a).head (omega (arith, (n.each a l).head)) in
+      f.low a l (omega (arith, ints));
+  cap = λ a l r.
+      let e = d.each (arc_of net a).tail (omega (arith, (n.each a l).tail)) in
+      let g = d.each (arc_of net a).head (omega (arith, (n.each a l).head)) in
+      f.cap a l (omega (arith, ints));
+}
+
+-- the answer of the search, with its numbers lowered
+pub IsPriced-near : (net : Network) (flow numbers : List ℕ) (lowered : List ℤ) → IsNetwork net → IsPricedFlow net flow numbers
+    → AreNear numbers ((net.nodes - 1) * greatest_cost net) → AreLess numbers lowered → IsPriced net flow lowered
+IsPriced-near net flow numbers lowered n s w d = record {
+  is_flow = s.is_flow;
+  fits = Fits-lowered net (units_of flow) numbers lowered n s.nodes s.fits d;
+  nodes = d.length_same ∙ s.nodes;
+  zero = omega (arith, ints, d.each 0 (omega (arith, n.some, s.nodes)));
+  least = λ v h. let k : v < length numbers = omega (arith, s.nodes) in omega (arith, ints, d.each v k, w.below v k);
+  most = λ v h. let k : v < length numbers = omega (arith, s.nodes) in omega (arith, ints, d.each v k, w.above v k);
+}
 
 -- one more element
 pub old_element : (xs : List ℤ) (x : ℤ) (ys : List ℤ) (v : ℕ) → ys ≡ xs ++ x ∷ [] → v < length xs → number_of ys v ≡ number_of xs v

@@ -1,8 +1,8 @@
-use Rattle.std.specs.Prelude.{ℕ, zero, suc, ◌≡◌, ◌-◌, ◌*◌, ◌<◌, max, ℤ, pos, neg_ℤ, ◌-ℤ◌, ◌≤ℤ◌, List, length, slice_index, slice_index_or}
+use Rattle.std.specs.Prelude.{ℕ, zero, suc, ◌≡◌, ◌+◌, ◌-◌, ◌*◌, ◌<◌, ◌≤◌, max, ℤ, pos, neg_ℤ, ◌-ℤ◌, ◌≤ℤ◌, List, length, slice_index, slice_index_or}
 use Rattle.tqd_base.specs.declared.limits.TheConstants.{DUAL_MAX}
 use Rattle.mcf_lower.specs.Net.{Network, arc_of}
 use Rattle.mcf_lower.specs.Circulation.{Fits}
-use Rattle.mcf_lower.specs.Answers.{IsFlow, units_of}
+use Rattle.mcf_lower.specs.Answers.{IsFlow, IsPricedFlow, units_of}
 
 -- the greatest of f 0, f 1, .., f (n - 1), or 0 where there is none
 abbrev pub greatest_to : ℕ → (ℕ → ℕ) → ℕ
@@ -34,3 +34,12 @@ pub record IsPriced (net : Network) (flow : List ℕ) (numbers : List ℤ) : Typ
 pub record AreLess (numbers : List ℕ) (lowered : List ℤ) : Type 0 where
   pub length_same : length lowered ≡ length numbers
   pub each : (v : ℕ) → v < length numbers → number_of lowered v ≡ pos (slice_index numbers v) -ℤ pos (slice_index numbers 0)
+
+-- numbers of which none is farther from the first than `most`
+pub record AreNear (numbers : List ℕ) (most : ℕ) : Type 0 where
+  pub above : (v : ℕ) → v < length numbers → slice_index numbers v ≤ slice_index numbers 0 + most
+  pub below : (v : ℕ) → v < length numbers → slice_index numbers 0 ≤ slice_index numbers v + most
+
+-- numbers that fit each flow that others fit, within what the net's costs call for
+abbrev pub ServeAs : Network → List ℕ → List ℤ → Type 0
+ServeAs net numbers bounded = (flow : List ℕ) → IsPricedFlow net flow numbers → IsPriced net flow bounded

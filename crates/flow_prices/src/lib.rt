@@ -12,6 +12,7 @@
 mod narrow;
 mod numbers;
 mod prices;
+mod start;
 
 pub use numbers::NumberList;
 pub use prices::{Priced, cheapest, cheapest_from};

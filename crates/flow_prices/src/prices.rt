@@ -1,18 +1,16 @@
-ghost use Rattle.std.specs.Prelude.{◌≡◌, ℕ, ◌+◌, ◌-◌, ◌*◌, ◌<◌, ◌≤◌, pos, length, slice_index, IfOk};
+ghost use Rattle.std.specs.Prelude.{◌≡◌, ℕ, ◌+◌, ◌-◌, ◌*◌, ◌<◌, ◌≤◌, pos, length, slice_index, IfOk, MatchBool};
 ghost use Rattle.tqd_base.specs.declared.limits.TheConstants.{PRICE_MAX};
-ghost use Rattle.mcf_lower.specs.declared.net.TheConstants.{NODES_MAX};
 ghost use Rattle.mcf_lower.specs.Net.{IsNetwork};
-ghost use Rattle.mcf_lower.specs.Search.{start_max, number_max};
-ghost use Rattle.flow_prices.specs.Narrow.{AreNarrowed};
-ghost use Rattle.flow_prices.specs.Prices.{greatest_cost, AreStart, AreLess};
+ghost use Rattle.mcf_lower.specs.Search.{number_max};
+ghost use Rattle.flow_prices.specs.Prices.{greatest_cost, AreStart, AreLess, AreNear, ServeAs};
 ghost use Rattle.flow_prices.specs.Answers.{IsAnswer};
 
 use crate::narrow::narrow;
 use crate::numbers::NumberList;
+use crate::start::start_numbers;
 use mcf_lower::{FlowList, Net, NodeSet, Solved, circulate_from};
 use std::alloc::Global;
 use tqd_base::Memory;
-use tqd_base::limits::DUAL_MAX;
 
 /// What `cheapest` finds: a circulation and node numbers that fit it, in millionths of the currency a unit, or a set of
 /// nodes out of which more has to flow than can come in.
@@ -35,23 +33,10 @@ fn dearest(net: &Net) -> u64
     most
 }
 
-/// The start numbers, raised so that none is below 0.
-fn raised(alloc: Global, net: &Net, start: &NumberList) -> Result<Vec<u64>, Memory>
-    requires { AreStart net.now start.now }
-    ensures nodes { IfOk result (λ numbers. length numbers.items ≡ net.now.nodes) }
-    ensures most { IfOk result (λ numbers. (v : ℕ) → v < net.now.nodes → slice_index numbers.items v ≤ start_max) }
-{
-    let mut numbers = Vec::with_capacity(alloc, net.nodes() as usize)?;
-    for n in 0..net.nodes() {
-        numbers.push((start.get(n) + DUAL_MAX) as u64)?;
-    }
-    Ok(numbers)
-}
-
 /// The numbers less the first of them.
 fn lowered(alloc: Global, numbers: &[u64]) -> Result<Vec<i64>, Memory>
     requires some { 1 ≤ length numbers.now }
-    requires small { (v : ℕ) → v < length numbers.now → slice_index numbers.now v ≤ NODES_MAX * PRICE_MAX }
+    requires small { (v : ℕ) → v < length numbers.now → slice_index numbers.now v ≤ number_max }
     ensures { IfOk result (λ lowered. AreLess numbers.now lowered.items) }
 {
     let base = numbers[0] as i64;
@@ -62,16 +47,44 @@ fn lowered(alloc: Global, numbers: &[u64]) -> Result<Vec<i64>, Memory>
     Ok(lowered)
 }
 
+/// Whether no number is farther from the first of them than `most`.
+fn are_near(numbers: &[u64], most: u64) -> bool
+    requires some { 1 ≤ length numbers.now }
+    ensures { MatchBool result (AreNear numbers.now most) (AreNear numbers.now most → ⊥) }
+{
+    let first = numbers[0];
+    for number in numbers {
+        if *number > first.saturating_add(most) || first > number.saturating_add(most) {
+            return false;
+        }
+    }
+    true
+}
+
+/// The numbers less the first of them, and narrowed where one would be farther from 0 than the net's costs call for.
+fn bounded(alloc: Global, net: &Net, numbers: &[u64]) -> Result<Vec<i64>, Memory>
+    requires nodes { length numbers.now ≡ net.now.nodes }
+    requires small { (v : ℕ) → v < length numbers.now → slice_index numbers.now v ≤ number_max }
+    ensures { IfOk result (λ bounded. ServeAs net.now numbers.now bounded.items) }
+{
+    let cost = dearest(net);
+    let most = u64::from(net.nodes() - 1) * cost;
+    if are_near(numbers, most) {
+        return lowered(alloc, numbers);
+    }
+    let narrowed = narrow(alloc, numbers, cost)?;
+    lowered(alloc, &narrowed)
+}
+
 /// A cheapest circulation with numbers that fit it, or a cut, exactly where there is no circulation. The search starts
 /// from the numbers `start`, one for each node, none of them farther from 0 than `DUAL_MAX`.
 pub fn cheapest_from(alloc: Global, net: &Net, start: &NumberList) -> Result<Priced, Memory>
     requires { AreStart net.now start.now }
     ensures { IfOk result (λ priced. IsAnswer net.now priced) }
 {
-    match circulate_from(alloc, net, raised(alloc, net, start)?)? {
+    match circulate_from(alloc, net, start_numbers(alloc, net, start)?)? {
         Solved::Flow { flow, numbers } => {
-            let narrowed = narrow(alloc, &numbers, dearest(net))?;
-            let numbers = NumberList::from_vec(lowered(alloc, &narrowed)?);
+            let numbers = NumberList::from_vec(bounded(alloc, net, &numbers)?);
             Ok(Priced::Flow { flow, numbers })
         }
         Solved::Cut(set) => Ok(Priced::Cut(set)),

@@ -2,7 +2,7 @@ use Rattle.std.proofs.Common.{◌≡◌, ℕ, ◌+◌, ◌-◌, ◌<◌, ◌≤�
 use Rattle.std.proofs.lemmas.Bool.{cases_lt, cases_eq, lt-ltb, le-ltb}
 use Rattle.std.proofs.lemmas.Grind.{common_steps}
 use Rattle.mcf_lower.specs.Net.{Network, IsNetwork, arc_of}
-use Rattle.mcf_lower.specs.Edges.{edges, along, back, edge_of, partner_of, IsEdge, IsIndexTo}
+use Rattle.mcf_lower.specs.Edges.{edges, along, back, edge_of, partner_of, IsEdge, IsChain}
 
 pub edge_of-along : (net : Network) (e : ℕ) → e < length net.arcs → edge_of net e ≡ along (arc_of net e)
 unfolding edge_of
@@ -34,15 +34,15 @@ index_first first f x v l e = grind (arith, common_steps)
 index_other : (first : List ℕ) (f x v : ℕ) → v ≢ f → get_or (set first f x) v 0 ≡ get_or first v 0
 index_other first f x v ne = grind (arith, common_steps)
 
-next_old : (next : List ℕ) (x b : ℕ) → b < length next → get_or (next ++ x ∷ []) b 0 ≡ get_or next b 0
+pub next_old : (next : List ℕ) (x b : ℕ) → b < length next → get_or (next ++ x ∷ []) b 0 ≡ get_or next b 0
 next_old next x b l = grind (arith, common_steps)
 
-next_new : (next : List ℕ) (x b : ℕ) → b ≡ length next → get_or (next ++ x ∷ []) b 0 ≡ x
+pub next_new : (next : List ℕ) (x b : ℕ) → b ≡ length next → get_or (next ++ x ∷ []) b 0 ≡ x
 next_new next x b e = grind (arith, common_steps)
 
-pub IsIndexTo-more : (nodes : ℕ) (finish : ℕ → ℕ) (e : ℕ) (first next : List ℕ) → IsIndexTo nodes finish e first next → finish e < nodes
-    → IsIndexTo nodes finish (e + 1) (set first (finish e) (e + 1)) (next ++ get_or first (finish e) 0 ∷ [])
-IsIndexTo-more nodes finish e first next ix fl =
+pub IsChain-more : (nodes : ℕ) (finish : ℕ → ℕ) (e : ℕ) (first next : List ℕ) → IsChain nodes finish e first next → finish e < nodes
+    → IsChain nodes finish (e + 1) (set first (finish e) (e + 1)) (next ++ get_or first (finish e) 0 ∷ [])
+IsChain-more nodes finish e first next ix fl =
     let f = finish e in
     let same : (v : ℕ) → v ≡ f → get_or (set first f (e + 1)) v 0 ≡ e + 1 = λ v q. index_first first f (e + 1) v (omega (arith, ix.firsts)) q in
     let other : (v : ℕ) → v ≢ f → get_or (set first f (e + 1)) v 0 ≡ get_or first v 0 = λ v q. index_other first f (e + 1) v q in
@@ -83,10 +83,24 @@ IsIndexTo-more nodes finish e first next ix fl =
           (cases_lt b e);
     }
 
+-- what is said of the things below `count` alone
+pub IsChain-ext : (nodes : ℕ) (f g : ℕ → ℕ) (count : ℕ) (first next : List ℕ) → ((k : ℕ) → k < count → f k ≡ g k)
+    → IsChain nodes f count first next → IsChain nodes g count first next
+IsChain-ext nodes f g count first next h ix = record {
+  firsts = ix.firsts;
+  nexts = ix.nexts;
+  first_below = ix.first_below;
+  first_there = λ v l p. sym (h (get_or first v 0 - 1) (omega (arith, ix.first_below v l))) ∙ ix.first_there v l p;
+  next_below = ix.next_below;
+  next_there = λ e l p. sym (h (get_or next e 0 - 1) (omega (arith, ix.next_below e l))) ∙ ix.next_there e l p ∙ h e l;
+  all_first = λ e l. let q = ap (λ x. get_or first x 0) (h e l) in omega (arith, ix.all_first e l);
+  all_next = λ d e l m q. ix.all_next d e l m (h d (omega arith) ∙ q ∙ sym (h e m));
+}
+
 -- the same, as the code reads and writes
-pub IsIndexTo-step : (nodes : ℕ) (finish : ℕ → ℕ) (e : ℕ) (first next : List ℕ) (f x : ℕ) (longer : List ℕ) → IsIndexTo nodes finish e first next
+pub IsChain-step : (nodes : ℕ) (finish : ℕ → ℕ) (e : ℕ) (first next : List ℕ) (f x : ℕ) (longer : List ℕ) → IsChain nodes finish e first next
     → f ≡ finish e → f < nodes → x ≡ get_or first f x → longer ≡ next ++ x ∷ []
-    → IsIndexTo nodes finish (e + 1) (set first f (e + 1)) longer
-IsIndexTo-step nodes finish e first next f x longer ix p l q r =
+    → IsChain nodes finish (e + 1) (set first f (e + 1)) longer
+IsChain-step nodes finish e first next f x longer ix p l q r =
     let z : x ≡ get_or first f 0 = grind (arith, common_steps, ix.firsts) in
-    rw (r, z, p) (IsIndexTo-more nodes finish e first next ix (omega (arith, p)))
+    rw (r, z, p) (IsChain-more nodes finish e first next ix (omega (arith, p)))

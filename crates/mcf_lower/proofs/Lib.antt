@@ -3,6 +3,9 @@ pub mod Sums
 pub mod Circulations
 pub mod Edges
 pub mod Trees
+pub mod Matches
+pub mod Keys
+pub mod Ends
 pub mod Offers
 pub mod Settling
 pub mod Rooms

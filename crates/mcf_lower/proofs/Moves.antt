@@ -1,11 +1,13 @@
 use Rattle.std.proofs.Common.{◌≡◌, ℕ, ◌+◌, ◌-◌, ◌<◌, ◌≤◌, ◌≢◌, ◌==◌, if◌then◌else◌, List, length, get_or, set, refl, subst, sym, ap, ◌∙◌, ⊎_elim, arith}
 use Rattle.std.proofs.lemmas.Bool.{cases_lt, cases_eq}
 use Rattle.mcf_lower.specs.declared.edge.Edge.{Edge}
+use Rattle.mcf_lower.specs.declared.backs.Backs.{Backs}
 use Rattle.mcf_lower.specs.declared.labels.Labels.{Labels}
 use Rattle.tqd_base.specs.Sum.{sum_to}
 use Rattle.mcf_lower.specs.Net.{Network, IsNetwork, arc_of, flow_max}
 use Rattle.mcf_lower.specs.Edges.{edges, along, back, edge_of, partner_of}
 use Rattle.mcf_lower.specs.Tree.{IsPriced}
+use Rattle.mcf_lower.specs.Ends.{AreBacks, IsListed, ListsBacks}
 use Rattle.mcf_lower.specs.Pseudoflow.{carried, IsBounded, IsBalanced, IsPath, at_node, BalanceMoves, ArePseudoflow}
 use Rattle.mcf_lower.proofs.Sums.{sum_to-change, if_same, if_other}
 use Rattle.mcf_lower.proofs.Edges.{edge_of-along, edge_of-back, partner_of-along, partner_of-back}
@@ -131,6 +133,25 @@ IsPriced-moved net numbers before e b amount after m some even h = record {
       (cases_eq x b);
 }
 
+-- an edge that goes along an arc gives room to the edge back alone, and one that goes back to none
+pub ListsBacks-moved : (net : Network) (before : List ℕ) (e b amount : ℕ) (after : List ℕ) (old new : Backs) → IsMoved net before e b amount after
+    → ListsBacks net before old → AreBacks net new → ((a : ℕ) → a < length net.arcs → IsListed old a → IsListed new a)
+    → (e < length net.arcs → IsListed new e) → ListsBacks net after new
+ListsBacks-moved net before e b amount after old new m h k kept here = record {
+  backs = k;
+  listed = λ a l r. elim (of_arc net e m.inside) [
+    | goes p q ↦ ⊎_elim
+        (λ (z : a ≡ e). subst (IsListed new) (sym z) (here p))
+        (λ (z : a ≢ e). kept a l (h.listed a l (omega (arith, r, m.other (a + length net.arcs) (omega (arith, m.partner)) (omega (arith, m.partner))))))
+        (cases_eq a e)
+    | comes d p q y ↦ ⊎_elim
+        (λ (z : a ≡ d). let f : a + length net.arcs ≡ e = omega arith in let u = ap (λ x. get_or before x 0) f in let t = ap (λ x. get_or after x 0) f in
+        kept a l (h.listed a l (omega (arith, r, m.less))))
+        (λ (z : a ≢ d). kept a l (h.listed a l (omega (arith, r, m.other (a + length net.arcs) (omega (arith, m.partner)) (omega (arith, m.partner))))))
+        (cases_eq a d)
+  ];
+}
+
 -- a sum over the arcs that end at a node, as one arc carries more
 end_more : (m : ℕ) (end f g : ℕ → ℕ) (a x v : ℕ) → a < m → ((k : ℕ) → k < m → k ≢ a → f k ≡ g k) → f a + x ≡ g a
     → sum_to m (λ k. if end k == v then f k else 0) + (if end a == v then x else 0) ≡ sum_to m (λ k. if end k == v then g k else 0)
@@ -192,10 +213,10 @@ takes_more net numbers before l far u b amount after m room path lu du nu h w lw
     let r = ap (λ y. get_or l.rank.items y 0) q in omega (arith, s.earlier, t.earlier) in
     omega (arith, m.other x ne nb, h w lw (omega (arith, s.earlier)) dw nw)
 
-pub ArePseudoflow-at : (net : Network) (room supply demand numbers room' supply' demand' numbers' : List ℕ)
-    → room' ≡ room → supply' ≡ supply → demand' ≡ demand → numbers' ≡ numbers
-    → ArePseudoflow net room supply demand numbers → ArePseudoflow net room' supply' demand' numbers'
-ArePseudoflow-at net room supply demand numbers room' supply' demand' numbers' a b c d h = rw (a, b, c, d) h
+pub ArePseudoflow-at : (net : Network) (room supply demand numbers room' supply' demand' numbers' : List ℕ) (backs backs' : Backs)
+    → room' ≡ room → supply' ≡ supply → demand' ≡ demand → numbers' ≡ numbers → backs' ≡ backs
+    → ArePseudoflow net room supply demand numbers backs → ArePseudoflow net room' supply' demand' numbers' backs'
+ArePseudoflow-at net room supply demand numbers room' supply' demand' numbers' backs backs' a b c d e h = rw (a, b, c, d, e) h
 
 pub takes_after : (net : Network) (numbers before : List ℕ) (l : Labels) (far u e b amount : ℕ) (after : List ℕ) → IsMoved net before e b amount after → e ≡ get_or l.parent.items u 0
     → (room : List ℕ) → IsPath net room numbers l far → u < net.nodes → get_or l.distance.items u 0 ≤ far → u ≢ l.root

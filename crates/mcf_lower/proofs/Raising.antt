@@ -30,7 +30,7 @@ IsPriced-raised net room supply numbers l s raised n t f p r = record {
       ⊎_elim
       (λ (z : get_or l.distance.items (edge_of net e).finish 0 < get_or l.distance.items s 0).
       let k = far_settled net room supply numbers l s t f (edge_of net e).finish d.finish z in
-      let c = f.closed.each e h (λ q. absurd (let w = ap (λ y. get_or l.distance.items y 0) q in omega arith)) k x in
+      let c = f.closed.each e h (λ q. let w = ap (λ y. get_or l.distance.items y 0) q in omega arith) k x in
       omega (arith, p.each e h x))
       (λ (z : get_or l.distance.items s 0 ≤ get_or l.distance.items (edge_of net e).finish 0). omega (arith, p.each e h x))
       (cases_lt (get_or l.distance.items (edge_of net e).finish 0) (get_or l.distance.items s 0));

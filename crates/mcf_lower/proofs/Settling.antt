@@ -5,7 +5,7 @@ use Rattle.std.specs.List.{sum_by}
 use Rattle.mcf_lower.specs.declared.labels.Labels.{Labels}
 use Rattle.mcf_lower.specs.declared.labels.TheConstants.{FAR, UNSETTLED}
 use Rattle.mcf_lower.specs.Net.{Network, IsNetwork}
-use Rattle.mcf_lower.specs.Edges.{edges, edge_of}
+use Rattle.mcf_lower.specs.Edges.{edge_of}
 use Rattle.mcf_lower.specs.Tree.{IsTree, Tree, IsLast, IsClosedBut, IsClosed, IsNearestNode, IsBegun}
 use Rattle.mcf_lower.proofs.Edges.{IsEdge-of}
 use Rattle.mcf_lower.proofs.Trees.{set_same, set_other, set_length}
@@ -107,12 +107,9 @@ IsLast-settle net room numbers root k distance rank parent width v t b few =
     }
 
 pub IsClosedBut-settle : (net : Network) (room numbers distance rank : List ℕ) (v k : ℕ)
-    → IsClosed net room numbers distance rank → IsClosedBut net room numbers distance (set rank v k) v (edges net)
+    → IsClosed net room numbers distance rank → IsClosedBut net room numbers distance (set rank v k) v
 IsClosedBut-settle net room numbers distance rank v k h = record {
-  each = λ e l q s r. ⊎_elim
-      (λ (z : (edge_of net e).finish ≡ v). absurd (omega (arith, q z)))
-      (λ (z : (edge_of net e).finish ≢ v). h.each e l (omega (arith, set_other rank v k (edge_of net e).finish z)) r)
-      (cases_eq (edge_of net e).finish v);
+  each = λ e l q s r. h.each e l (omega (arith, set_other rank v k (edge_of net e).finish q)) r;
 }
 
 -- how many nodes are not settled

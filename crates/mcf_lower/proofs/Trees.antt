@@ -18,7 +18,7 @@ pub set_length : (xs : List ℕ) (i x n : ℕ) → length xs ≡ n → length (s
 set_length xs i x n e = grind (arith, common_steps)
 
 -- a node that an edge into the node settled last brings nearer is not settled
-unsettled : (net : Network) (room numbers : List ℕ) (root k : ℕ) (distance rank parent width : List ℕ) (e d : ℕ)
+pub unsettled : (net : Network) (room numbers : List ℕ) (root k : ℕ) (distance rank parent width : List ℕ) (e d : ℕ)
     → IsTree net room numbers root k distance rank parent width → IsPriced net room numbers → IsLast net numbers root k distance rank (edge_of net e).finish
     → e < edges net → 0 < get_or room e 0 → (edge_of net e).start < net.nodes
     → d + get_or numbers (edge_of net e).finish 0 + (edge_of net e).minus ≡ get_or distance (edge_of net e).finish 0 + get_or numbers (edge_of net e).start 0 + (edge_of net e).plus
@@ -100,7 +100,15 @@ IsTree-label net room numbers root k distance rank parent width e d w n t p l h 
           (cases_eq v u);
     }
 
--- the same, as the code reads the edge
+-- the same two, as the code reads the edge
+pub unsettled-offer : (net : Network) (room numbers : List ℕ) (root k : ℕ) (distance rank parent width : List ℕ) (edge : Edge) (e d : ℕ) → edge ≡ edge_of net e
+    → IsTree net room numbers root k distance rank parent width → IsPriced net room numbers → IsLast net numbers root k distance rank edge.finish
+    → e < edges net → 0 < get_or room e 0 → edge.start < net.nodes
+    → d + get_or numbers edge.finish 0 + edge.minus ≡ get_or distance edge.finish 0 + get_or numbers edge.start 0 + edge.plus
+    → d < get_or distance edge.start 0 → get_or rank edge.start 0 ≡ UNSETTLED
+unsettled-offer net room numbers root k distance rank parent width edge e d is t p l h r s q lt =
+    rw is (unsettled net room numbers root k distance rank parent width e d t p (rw is at l) h r (rw is at s) (rw is at q) (rw is at lt))
+
 pub IsTree-offer : (net : Network) (room numbers : List ℕ) (root k : ℕ) (distance rank parent width : List ℕ) (edge : Edge) (e d w : ℕ)
     → edge ≡ edge_of net e
     → IsNetwork net → IsTree net room numbers root k distance rank parent width → IsPriced net room numbers → IsLast net numbers root k distance rank (edge_of net e).finish

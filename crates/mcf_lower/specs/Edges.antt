@@ -2,7 +2,6 @@ use Rattle.std.specs.Prelude.{ℕ, ◌≡◌, ◌+◌, ◌-◌, ◌<◌, ◌≤�
 use Rattle.tqd_base.specs.declared.limits.TheConstants.{PRICE_MAX}
 use Rattle.mcf_lower.specs.declared.net.Arc.{Arc}
 use Rattle.mcf_lower.specs.declared.edge.Edge.{Edge}
-use Rattle.mcf_lower.specs.declared.index.Index.{Index}
 use Rattle.mcf_lower.specs.Net.{Network, arc_of}
 
 -- The residual graph: each arc is two edges, one along it and one back.
@@ -28,17 +27,14 @@ pub record IsEdge (nodes : ℕ) (edge : Edge) : Type 0 where
   pub plus : edge.plus ≤ PRICE_MAX
   pub minus : edge.minus ≤ PRICE_MAX
 
--- the first `count` edges by the node where they finish: `first` gives the last of a node's edges, and `next` the one before an edge, each as its
--- number and 1, or as 0 where there is none
-pub record IsIndexTo (nodes : ℕ) (finish : ℕ → ℕ) (count : ℕ) (first next : List ℕ) : Type 0 where
+-- the first `count` things by their node: `first` gives the last of a node's things, and `next` the one before a thing, each as its number and 1, or as
+-- 0 where there is none
+pub record IsChain (nodes : ℕ) (node_of : ℕ → ℕ) (count : ℕ) (first next : List ℕ) : Type 0 where
   pub firsts : length first ≡ nodes
   pub nexts : length next ≡ count
   pub first_below : (v : ℕ) → v < nodes → slice_index first v ≤ count
-  pub first_there : (v : ℕ) → v < nodes → 0 < slice_index first v → finish (slice_index first v - 1) ≡ v
+  pub first_there : (v : ℕ) → v < nodes → 0 < slice_index first v → node_of (slice_index first v - 1) ≡ v
   pub next_below : (e : ℕ) → e < count → slice_index next e ≤ e
-  pub next_there : (e : ℕ) → e < count → 0 < slice_index next e → finish (slice_index next e - 1) ≡ finish e
-  pub all_first : (e : ℕ) → e < count → e < slice_index first (finish e)
-  pub all_next : (d e : ℕ) → d < e → e < count → finish d ≡ finish e → d < slice_index next e
-
-abbrev pub IsIndex : Network → Index → Type 0
-IsIndex net index = IsIndexTo net.nodes (λ e. (edge_of net e).finish) (edges net) index.first.items index.next.items
+  pub next_there : (e : ℕ) → e < count → 0 < slice_index next e → node_of (slice_index next e - 1) ≡ node_of e
+  pub all_first : (e : ℕ) → e < count → e < slice_index first (node_of e)
+  pub all_next : (d e : ℕ) → d < e → e < count → node_of d ≡ node_of e → d < slice_index next e

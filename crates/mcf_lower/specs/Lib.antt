@@ -2,6 +2,8 @@ pub mod Net
 pub mod Circulation
 pub mod Laws
 pub mod Edges
+pub mod Ends
+pub mod Tournament
 pub mod Tree
 pub mod Search
 pub mod Pseudoflow

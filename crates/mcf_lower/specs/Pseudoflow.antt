@@ -1,5 +1,6 @@
 use Rattle.std.specs.Prelude.{ℕ, ◌≡◌, ◌≢◌, ◌+◌, ◌-◌, ◌<◌, ◌≤◌, ◌==◌, nat_lt, if◌then◌else◌, List, length, slice_index, slice_index_or, Bool, false}
 use Rattle.mcf_lower.specs.declared.net.Arc.{Arc}
+use Rattle.mcf_lower.specs.declared.backs.Backs.{Backs}
 use Rattle.mcf_lower.specs.declared.labels.Labels.{Labels}
 use Rattle.mcf_lower.specs.declared.labels.TheConstants.{UNSETTLED}
 use Rattle.mcf_lower.specs.declared.pseudoflow.Pseudoflow.{Pseudoflow}
@@ -8,6 +9,7 @@ use Rattle.mcf_lower.specs.declared.net.TheConstants.{NODES_MAX}
 use Rattle.tqd_base.specs.Sum.{sum_to}
 use Rattle.mcf_lower.specs.Circulation.{inflow, outflow}
 use Rattle.mcf_lower.specs.Edges.{edges, edge_of}
+use Rattle.mcf_lower.specs.Ends.{ListsBacks}
 use Rattle.mcf_lower.specs.Tree.{IsPriced, Tree}
 use Rattle.mcf_lower.specs.Search.{number_max, start_max, IsStuck}
 
@@ -45,7 +47,7 @@ pub record AreSums (net : Network) (room : List ℕ) (count : ℕ) (supply deman
   pub brought : (v : ℕ) → v < net.nodes → slice_index supply v ≡ sum_to count (λ a. if (arc_of net a).head == v then carried net room a else 0)
   pub taken : (v : ℕ) → v < net.nodes → slice_index demand v ≡ sum_to count (λ a. if (arc_of net a).tail == v then carried net room a else 0)
 
-pub record ArePseudoflow (net : Network) (room supply demand numbers : List ℕ) : Type 0 where
+pub record ArePseudoflow (net : Network) (room supply demand numbers : List ℕ) (backs : Backs) : Type 0 where
   pub supplies : length supply ≡ net.nodes
   pub demands : length demand ≡ net.nodes
   pub priced : IsPriced net room numbers
@@ -53,9 +55,10 @@ pub record ArePseudoflow (net : Network) (room supply demand numbers : List ℕ)
   pub balanced : IsBalanced net room (λ v. slice_index supply v) (λ v. slice_index demand v)
   pub small : (v : ℕ) → v < net.nodes → slice_index numbers v ≤ number_max
   pub supplied : (v : ℕ) → v < net.nodes → 0 < slice_index supply v → slice_index numbers v ≤ start_max
+  pub back : ListsBacks net room backs
 
 abbrev pub IsPseudoflow : Network → Pseudoflow → Type 0
-IsPseudoflow net p = ArePseudoflow net p.room.items p.supply.items p.demand.items p.numbers.items
+IsPseudoflow net p = ArePseudoflow net p.room.items p.supply.items p.demand.items p.numbers.items p.backs
 
 abbrev pub CanRaise : List ℕ → List ℕ → ℕ → Type 0
 CanRaise numbers distance far = (v : ℕ) → v < length numbers → slice_index numbers v + (far - slice_index distance v) ≤ number_max

@@ -2,8 +2,10 @@ use Rattle.std.specs.Prelude.{ℕ, ◌≡◌, ◌≢◌, ◌+◌, ◌*◌, ◌<�
 use Rattle.tqd_base.specs.declared.limits.TheConstants.{PRICE_MAX}
 use Rattle.mcf_lower.specs.declared.labels.Labels.{Labels}
 use Rattle.mcf_lower.specs.declared.labels.TheConstants.{FAR, UNSETTLED}
+use Rattle.mcf_lower.specs.declared.tournament.Tournament.{Tournament}
 use Rattle.mcf_lower.specs.Net.{Network}
 use Rattle.mcf_lower.specs.Edges.{edges, edge_of}
+use Rattle.mcf_lower.specs.Tournament.{key_of, IsTournament, HasPlaces}
 
 -- Lists give a number for each node or, `room`, for each edge: how many more units it can take.
 
@@ -59,9 +61,9 @@ IsMet net numbers distance e =
     slice_index distance (edge_of net e).start + slice_index numbers (edge_of net e).finish + (edge_of net e).minus
     ≤ slice_index distance (edge_of net e).finish + slice_index numbers (edge_of net e).start + (edge_of net e).plus
 
--- no edge with room into a settled node makes a path shorter, but for those into v that are numbered below c
-pub record IsClosedBut (net : Network) (room numbers distance rank : List ℕ) (v c : ℕ) : Type 0 where
-  pub each : (e : ℕ) → e < edges net → ((edge_of net e).finish ≡ v → c ≤ e) → slice_index rank (edge_of net e).finish < UNSETTLED → 0 < slice_index room e → IsMet net numbers distance e
+-- no edge with room into a settled node makes a path shorter, but for those into v
+pub record IsClosedBut (net : Network) (room numbers distance rank : List ℕ) (v : ℕ) : Type 0 where
+  pub each : (e : ℕ) → e < edges net → (edge_of net e).finish ≢ v → slice_index rank (edge_of net e).finish < UNSETTLED → 0 < slice_index room e → IsMet net numbers distance e
 
 pub record IsClosed (net : Network) (room numbers distance rank : List ℕ) : Type 0 where
   pub each : (e : ℕ) → e < edges net → slice_index rank (edge_of net e).finish < UNSETTLED → 0 < slice_index room e → IsMet net numbers distance e
@@ -71,6 +73,16 @@ pub record HasSizes (nodes : ℕ) (l : Labels) : Type 0 where
   pub ranks : length l.rank.items ≡ nodes
   pub parents : length l.parent.items ≡ nodes
   pub widths : length l.width.items ≡ nodes
+  pub keys : HasPlaces nodes l.keys
+
+-- the nodes play with their distances until they are settled
+pub record AreKeyed (distance rank : List ℕ) (t : Tournament) : Type 0 where
+  pub tournament : IsTournament t
+  pub playing : (v : ℕ) → v < t.places → slice_index rank v ≡ UNSETTLED → key_of t v ≡ slice_index distance v
+  pub settled : (v : ℕ) → v < t.places → slice_index rank v ≢ UNSETTLED → key_of t v ≡ FAR
+
+abbrev pub Keyed : Labels → Type 0
+Keyed l = AreKeyed l.distance.items l.rank.items l.keys
 
 -- the labels as a search begins
 pub record IsBegun (nodes root : ℕ) (l : Labels) : Type 0 where
@@ -84,6 +96,8 @@ pub record IsBegun (nodes root : ℕ) (l : Labels) : Type 0 where
   pub near : slice_index l.distance.items root ≡ 0
   pub unsettled : (v : ℕ) → v < nodes → slice_index l.rank.items v ≡ UNSETTLED
   pub width : 1 ≤ slice_index l.width.items root
+  pub places : l.keys.places ≡ nodes
+  pub keyed : Keyed l
 
 -- b is an unsettled node of least distance
 pub record IsNearestNode (nodes : ℕ) (distance rank : List ℕ) (b : ℕ) : Type 0 where

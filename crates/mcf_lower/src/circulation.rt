@@ -46,7 +46,8 @@ pub fn circulate_from(alloc: Global, net: &Net, numbers: Vec<u64>) -> Result<Sol
     let index = Index::new(alloc, net)?;
     let mut labels = Labels::new(alloc, net.nodes())?;
     let mut flow = Pseudoflow::new(alloc, net, numbers)?;
-    if serve_all(net, &index, &mut flow, &mut labels) {
+    let served = serve_all(net, &index, &mut flow, &mut labels)?;
+    if served {
         let units = FlowList::of(flows(alloc, net, &flow.room)?);
         Ok(Solved::Flow {
             flow: units,

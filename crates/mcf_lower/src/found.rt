@@ -83,7 +83,7 @@ pub enum Found {
     Cut(NodeSet),
 }
 
-/// What `solve` finds: a circulation and node numbers that fit it, in millionths of the currency a unit, or a set of
+/// What `circulate_from` finds: a circulation and node numbers that fit it, in millionths of the currency a unit, or a set of
 /// nodes out of which more has to flow than can come in.
 #[derive(Drop)]
 pub enum Solved {

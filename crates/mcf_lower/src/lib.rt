@@ -13,9 +13,11 @@
 //! the bounds or makes a gain of an edge, and each brings at least one unit.
 #![tactic(auto)]
 
+mod backs;
 mod balancing;
 mod circulation;
 mod edge;
+mod end;
 mod found;
 mod index;
 mod labels;
@@ -23,6 +25,7 @@ pub mod laws;
 mod net;
 mod pseudoflow;
 mod search;
+mod tournament;
 
 pub use circulation::{circulate, circulate_from};
 pub use found::{FlowList, Found, NodeSet, Solved};

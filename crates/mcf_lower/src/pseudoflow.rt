@@ -2,10 +2,12 @@ ghost use Rattle.std.specs.Prelude.{◌≡◌, ℕ, ◌+◌, ◌-◌, ◌<◌, �
 ghost use Rattle.mcf_lower.specs.Net.{IsNetwork, flow_max};
 ghost use Rattle.mcf_lower.specs.declared.net.TheConstants.{NODES_MAX};
 ghost use Rattle.mcf_lower.specs.Edges.{edges};
+ghost use Rattle.mcf_lower.specs.Ends.{ListsBacks};
 ghost use Rattle.mcf_lower.specs.Tree.{IsPriced, Tree};
 ghost use Rattle.mcf_lower.specs.Search.{IsSmall, IsFound, start_max};
 ghost use Rattle.mcf_lower.specs.Pseudoflow.{AreFirstRooms, IsBounded, first_room, carried, AreSums, IsPseudoflow, IsRaised, CanRaise, IsPath, BalanceMoves, IsLess};
 
+use crate::backs::Backs;
 use crate::edge::{Edge, partner};
 use crate::labels::Labels;
 use crate::net::Net;
@@ -15,13 +17,14 @@ use tqd_base::Memory;
 /// A flow within the bounds of each arc, with node numbers at which no edge with room is a gain.
 ///
 /// For each edge of the residual graph its room; for each node the units that it has to send on and those that it
-/// lacks, and its number, in millionths of the currency a unit.
+/// lacks, and its number, in millionths of the currency a unit. `backs` has each arc whose edge back has room.
 #[derive(Drop)]
 pub(crate) struct Pseudoflow {
     pub room: Vec<u64>,
     pub supply: Vec<u64>,
     pub demand: Vec<u64>,
     pub numbers: Vec<u64>,
+    pub backs: Backs,
 }
 
 /// The room of edge `e` where an arc at a gain carries all that it can, and each other arc no more than it has to.
@@ -104,25 +107,37 @@ fn raise(numbers: &mut [u64], distance: &[u64], far: u64)
 }
 
 /// Sends `amount` units from node `from` along its path to the root.
-fn push(net: &Net, room: &mut [u64], numbers: &[u64], labels: &Labels, from: u32, amount: u64)
+fn push(
+    net: &Net,
+    room: &mut [u64],
+    backs: &mut Backs,
+    numbers: &[u64],
+    labels: &Labels,
+    from: u32,
+    amount: u64,
+) -> Result<(), Memory>
     requires path { IsPath net.now room.old numbers.now labels.now (slice_index labels.now.distance.items from) }
     requires inside { from < net.now.nodes }
     requires priced { IsPriced net.now room.old numbers.now }
     requires bounded { IsBounded net.now room.old }
+    requires backs { ListsBacks net.now room.old backs.old }
     requires some { 1 ≤ amount }
     requires wide { amount ≤ slice_index labels.now.width.items from }
-    ensures priced { IsPriced net.now room.new numbers.now }
-    ensures bounded { IsBounded net.now room.new }
-    ensures moved { BalanceMoves net.now room.old room.new from labels.now.root amount }
+    ensures priced { IfOk result (λ _. IsPriced net.now room.new numbers.now) }
+    ensures bounded { IfOk result (λ _. IsBounded net.now room.new) }
+    ensures backs { IfOk result (λ _. ListsBacks net.now room.new backs.new) }
+    ensures moved { IfOk result (λ _. BalanceMoves net.now room.old room.new from labels.now.root amount) }
 {
     let mut v = from;
     while v != labels.root {
         let e = labels.parent[v as usize];
         let back = partner(net, e);
+        backs.list(net, e)?;
         room[e as usize] -= amount;
         room[back as usize] += amount;
         v = Edge::of(net, e).finish;
     }
+    Ok(())
 }
 
 impl Pseudoflow {
@@ -137,33 +152,44 @@ impl Pseudoflow {
         let mut supply = vec![in alloc; 0u64; net.nodes() as usize]?;
         let mut demand = vec![in alloc; 0u64; net.nodes() as usize]?;
         sums(net, &room, &mut supply, &mut demand);
+        let backs = Backs::of(alloc, net, &room)?;
         Ok(Pseudoflow {
             room,
             supply,
             demand,
             numbers,
+            backs,
         })
     }
 
     /// Sends units from `source` to the root of the labels, as many as the path takes.
-    pub(crate) fn send(&mut self, net: &Net, labels: &Labels, source: u32)
+    pub(crate) fn send(&mut self, net: &Net, labels: &Labels, source: u32) -> Result<(), Memory>
         requires network { IsNetwork net.now }
         requires pseudoflow { IsPseudoflow net.now self.old }
         requires tree { Tree net.now self.old.room.items self.old.numbers.items labels.now }
         requires few { labels.now.settled ≤ NODES_MAX }
         requires found { IsFound net.now self.old.room.items self.old.supply.items self.old.numbers.items labels.now source }
         requires wanted { 0 < slice_index self.old.demand.items labels.now.root }
-        ensures pseudoflow { IsPseudoflow net.now self.new }
-        ensures less { IsLess self.old.demand.items self.new.demand.items }
-        ensures sent { slice_index self.new.demand.items labels.now.root < slice_index self.old.demand.items labels.now.root }
+        ensures pseudoflow { IfOk result (λ _. IsPseudoflow net.now self.new) }
+        ensures less { IfOk result (λ _. IsLess self.old.demand.items self.new.demand.items) }
+        ensures sent { IfOk result (λ _. slice_index self.new.demand.items labels.now.root < slice_index self.old.demand.items labels.now.root) }
     {
         let (from, root) = (source as usize, labels.root as usize);
         raise(&mut self.numbers, &labels.distance, labels.distance[from]);
         let amount = labels.width[from]
             .min(self.supply[from])
             .min(self.demand[root]);
-        push(net, &mut self.room, &self.numbers, labels, source, amount);
+        push(
+            net,
+            &mut self.room,
+            &mut self.backs,
+            &self.numbers,
+            labels,
+            source,
+            amount,
+        )?;
         self.supply[from] -= amount;
         self.demand[root] -= amount;
+        Ok(())
     }
 }

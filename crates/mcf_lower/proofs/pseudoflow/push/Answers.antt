@@ -3,7 +3,7 @@ use Rattle.std.proofs.lemmas.Grind.{common_steps}
 use Rattle.mcf_lower.specs.declared.edge.Edge.{Edge}
 use Rattle.mcf_lower.specs.Edges.{edges, edge_of}
 use Rattle.mcf_lower.proofs.Trees.{set_other, set_length}
-use Rattle.mcf_lower.proofs.Moves.{partner_of-inside, IsMoved-set, pair_most, IsBounded-moved, IsPriced-moved, BalanceMoves-moved, takes_after}
+use Rattle.mcf_lower.proofs.Moves.{partner_of-inside, IsMoved-set, ListsBacks-moved, pair_most, IsBounded-moved, IsPriced-moved, BalanceMoves-moved, takes_after}
 use Rattle.mcf_lower.proofs.pseudoflow.push.Goals as goal
 
 pub bounds-room-back : goal.bounds-room-back
@@ -57,6 +57,8 @@ loop-v-preserved c =
       wide = omega (arith, s.narrower, i.wide, w);
       priced = IsPriced-moved c.args.net.now c.args.numbers.now c.loop-v.room c.index-e.result.now c.partner-back.result c.args.amount _ m c.requires.some
           (omega (arith, s.even, p)) i.priced;
+      backs = ListsBacks-moved c.args.net.now c.loop-v.room c.index-e.result.now c.partner-back.result c.args.amount _ c.loop-v.backs c.list.new.self
+          m i.backs c.in_ok-list.ensures.backs c.in_ok-list.ensures.kept c.in_ok-list.ensures.listed;
       bounded = IsBounded-moved c.args.net.now c.loop-v.room c.index-e.result.now c.partner-back.result c.args.amount _ m i.bounded;
       takes = λ x l k h n. takes_after c.args.net.now c.args.numbers.now c.loop-v.room c.args.labels.now _ c.loop-v.v c.index-e.result.now c.partner-back.result c.args.amount _
           m e c.args.room.now c.requires.path i.inside i.near c.loop-v-test.true i.takes x l (omega arith) h n;

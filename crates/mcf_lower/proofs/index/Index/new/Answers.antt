@@ -1,18 +1,21 @@
-use Rattle.std.proofs.Common.{rules, arith, ap}
-use Rattle.mcf_lower.specs.declared.edge.Edge.{Edge}
-use Rattle.mcf_lower.proofs.Edges.{IsIndexTo-step}
+use Rattle.std.proofs.Common.{◌≡◌, ℕ, [], ◌∷◌, ◌++◌, length, subst, ap, ◌∙◌, arith}
+use Rattle.std.proofs.lemmas.Grind.{common_steps}
+use Rattle.mcf_lower.specs.Ends.{IsIndexTo}
+use Rattle.mcf_lower.proofs.Ends.{IsIndexTo-none, IsIndexTo-more}
 use Rattle.mcf_lower.proofs.index.Index.new.Goals as goal
 
-pub index-requires : goal.index-requires
-index-requires c = omega (arith, c.loop-e.invariant.made.firsts)
+pub loop-v-init : goal.loop-v-init
+loop-v-init c =
+    IsIndexTo-none c.args.net.now c.push.new.self.items c.in_ok-ends.ends.items
+    (c.in_ok-push.ensures.items ∙ ap (λ xs. xs ++ 0 ∷ []) c.in_ok-starts.ensures.items) c.in_ok-ends.ensures.items
 
-pub index_mut-requires : goal.index_mut-requires
-index_mut-requires c = omega (arith, c.loop-e.invariant.made.firsts)
+pub loop-v-preserved : goal.loop-v-preserved
+loop-v-preserved c =
+    let l : c.len.result ≡ length c.add_to.new.ends.items = grind (arith, common_steps) in
+    IsIndexTo-more c.args.net.now c.loop-v.v c.len.result c.loop-v.starts.items c.push-in-loop-v.new.self.items c.loop-v.ends.items c.add_to.new.ends.items
+    c.loop-v.invariant c.in_ok-add_to.ensures l c.in_ok-push-2.ensures.items
 
-pub loop-e-preserved : goal.loop-e-preserved
-loop-e-preserved c = record {
-  edges = search rules;
-  made = IsIndexTo-step _ _ c.loop-e.e c.loop-e.first.items c.loop-e.next.items c.of-finish.result.finish c.index.result.now _
-      c.loop-e.invariant.made (ap (λ (x : Edge). x.finish) c.of-finish.ensures.is) c.of-finish.ensures.inside.finish
-      c.index.ensures c.in_ok-push.ensures.items;
-}
+pub returns : goal.returns
+returns c =
+    let e : c.loop-v.v ≡ c.args.net.now.nodes = omega (arith, c.nodes-v-end.ensures.is) in
+    subst (λ (x : ℕ). IsIndexTo c.args.net.now x c.loop-v.starts.items c.loop-v.ends.items) e c.loop-v.invariant

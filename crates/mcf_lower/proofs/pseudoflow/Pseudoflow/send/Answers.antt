@@ -31,22 +31,24 @@ returns-clause-pseudoflow c =
     let d : c.index.result.now ≡ get_or c.args.labels.now.distance.items c.args.source 0 = grind (arith, common_steps) in
     let r = rw (c.deref_mut.ensures.value, c.deref.ensures.value, d) at c.raise.ensures in
     let w = with_items_is c.args.self.now.numbers c.raise.new.numbers (omega (arith, c.raise.auto.numbers, c.deref_mut.ensures.len)) in
-    let x = rw (c.deref_mut-2.ensures.value) at c.push.ensures.moved in
+    let x = rw (c.deref_mut-2.ensures.value) at c.in_ok-push.ensures.moved in
     let ms : c.index_mut.result.now ≡ get_or c.args.self.now.supply.items c.args.source 0 = grind (arith, common_steps) in
     let md : c.index_mut-2.result.now ≡ get_or c.args.self.now.demand.items c.args.labels.now.root 0 = grind (arith, common_steps) in
     let us : c.index-3.result.now ≡ get_or c.args.self.now.supply.items c.args.source 0 = grind (arith, common_steps) in
     let ud : c.index-4.result.now ≡ get_or c.args.self.now.demand.items c.args.labels.now.root 0 = grind (arith, common_steps) in
     let inside = f.last.inside in
-    ArePseudoflow-at c.args.net.now c.push.new.room _ _ c.raise.new.numbers _ _ _ _
+    ArePseudoflow-at c.args.net.now c.push.new.room _ _ c.raise.new.numbers _ _ _ _ _ _
     (with_items_is c.args.self.now.room c.push.new.room (omega (arith, c.push.auto.room, c.deref_mut-2.ensures.len)))
     refl
     refl
     w
+    refl
     (record {
       supplies = set_length _ c.args.source _ c.args.net.now.nodes p.supplies;
       demands = set_length _ c.args.labels.now.root _ c.args.net.now.nodes p.demands;
-      priced = rw (c.deref-2.ensures.value ∙ w) at c.push.ensures.priced;
-      bounded = c.push.ensures.bounded;
+      priced = rw (c.deref-2.ensures.value ∙ w) at c.in_ok-push.ensures.priced;
+      bounded = c.in_ok-push.ensures.bounded;
+      back = c.in_ok-push.ensures.backs;
       balanced = IsBalanced-sent c.args.net.now c.args.self.now.room.items c.push.new.room c.args.self.now.supply.items c.args.self.now.demand.items
           c.args.source c.args.labels.now.root c.min-amount.result _ _ x p.supplies p.demands inside c.requires.tree.root_inside
           (omega (arith, ms, us)) (omega (arith, md, ud)) p.balanced;

@@ -1,6 +1,6 @@
 use Rattle.std.proofs.Common.{◌≡◌, ℕ, ◌<◌, ◌≤◌, length, get_or}
 use Rattle.mcf_lower.specs.Search.{start_max}
-use Rattle.flow_prices.proofs.prices.raised.Given as goal
+use Rattle.flow_prices.proofs.start.raised.Given as goal
 
 abbrev pub invariant-loop-n : goal.invariant-loop-n
 invariant-loop-n l = record {

@@ -2,7 +2,7 @@ use Rattle.std.proofs.Common.{◌<◌, ◌≤◌, arith, ⊎_elim}
 use Rattle.std.proofs.lemmas.Bool.{cases_lt}
 use Rattle.std.proofs.lemmas.Int.{ints}
 use Rattle.flow_prices.proofs.Pricing.{old_number, new_number}
-use Rattle.flow_prices.proofs.prices.raised.Goals as goal
+use Rattle.flow_prices.proofs.start.raised.Goals as goal
 
 pub loop-n-preserved : goal.loop-n-preserved
 loop-n-preserved c =
