@@ -12,3 +12,10 @@ pub mod RowTerms
 pub mod TermsFormed
 pub mod OffersFormed
 pub mod BookFormed
+pub mod IntervalFacts
+pub mod OfferShape
+pub mod OfferLaws
+pub mod OfferFaultLaws
+pub mod TermFormFacts
+pub mod TermLaws
+pub mod TermFaultLaws

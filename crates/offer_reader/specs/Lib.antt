@@ -6,3 +6,5 @@ pub mod TermForms
 pub mod Terms
 pub mod TermRows
 pub mod TermSteps
+pub mod Laws
+pub mod TermLaws

@@ -111,6 +111,9 @@ offer_fault_after wanted earlier row = offer_fault (offers_of wanted (earlier ++
 abbrev pub checked_offers : Wanted → List Row → Result OffersData OfferFault
 checked_offers wanted rows = unless (first_fault (offer_fault_after wanted) [] rows) (offers_of wanted rows)
 
+abbrev pub offer_columns : List (List ℕ)
+offer_columns = codes "supplier" ∷ codes "from" ∷ codes "part" ∷ codes "price" ∷ []
+
 -- the rows of a file of offers: `supplier,from,part,price`
 abbrev pub offer_rows : List ℕ → Result (List Row) OfferFault
-offer_rows bytes = result_map_both (λ rows. rows) Rows (table_of (codes "supplier" ∷ codes "from" ∷ codes "part" ∷ codes "price" ∷ []) (records_of bytes))
+offer_rows bytes = result_map_both (λ rows. rows) Rows (table_of offer_columns (records_of bytes))

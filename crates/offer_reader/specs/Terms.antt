@@ -118,10 +118,12 @@ checked_terms wanted book rows = unless
     (first_fault (term_fault_after wanted book) [] rows)
     (filter_map (term_of wanted book.suppliers) rows)
 
+abbrev pub term_columns : List (List ℕ)
+term_columns = codes "kind" ∷ codes "supplier" ∷ codes "part" ∷ codes "low" ∷ codes "high" ∷ []
+
 -- the rows of a file of terms: `kind,supplier,part,low,high`
 abbrev pub term_rows : List ℕ → Result (List Row) TermFault
-term_rows bytes = result_map_both (λ rows. rows) Rows
-    (table_of (codes "kind" ∷ codes "supplier" ∷ codes "part" ∷ codes "low" ∷ codes "high" ∷ []) (records_of bytes))
+term_rows bytes = result_map_both (λ rows. rows) Rows (table_of term_columns (records_of bytes))
 
 -- the book that a file of terms makes of one without terms, or the fault
 abbrev pub terms_in : Wanted → BookData → List ℕ → Result BookData TermFault

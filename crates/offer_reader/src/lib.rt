@@ -13,6 +13,7 @@ mod book;
 mod fault;
 mod form;
 mod kind;
+pub mod laws;
 mod offers;
 mod reading;
 mod rows;

@@ -13,7 +13,8 @@ use Rattle.tqd_instance.proofs.Froms.{froms_one, few_all, formed_from}
 use Rattle.order_gen.specs.declared.offers.Starts.{Starts}
 use Rattle.order_gen.proofs.Lists.{filter_has, map_has, find_some}
 use Rattle.order_gen.proofs.OfferList.{IsStart, AreRising, IsOffered}
-use Rattle.order_gen.proofs.Made.{IsMade}
+use Rattle.order_gen.specs.GenParts.{parts_from}
+use Rattle.order_gen.proofs.Made.{IsMade, parts_made, starts_of}
 
 -- the numbers at which the intervals of each supplier begin
 abbrev pub three : Starts → List ℕ
@@ -190,3 +191,12 @@ made_passes starts parts made = record {
   shares = λ i bad. absurd (omega (arith, bad.2, ap length made.no_shares));
   winners = omega (arith, made.least_winners, made.most_winners);
 }
+
+-- the parts that are drawn from a state
+pub drawn_formed : (state goods suppliers : ℕ) → 1 ≤ goods → goods ≤ 1000 → 1 ≤ suppliers → suppliers ≤ 64 → IsWellFormed (parts_from state goods suppliers)
+drawn_formed state goods suppliers some few some_suppliers few_suppliers =
+    made_formed (starts_of state goods suppliers) (parts_from state goods suppliers) (parts_made state goods suppliers some few some_suppliers few_suppliers)
+
+pub drawn_passes : (state goods suppliers : ℕ) → 1 ≤ goods → goods ≤ 1000 → 1 ≤ suppliers → suppliers ≤ 64 → Passes (parts_from state goods suppliers)
+drawn_passes state goods suppliers some few some_suppliers few_suppliers =
+    made_passes (starts_of state goods suppliers) (parts_from state goods suppliers) (parts_made state goods suppliers some few some_suppliers few_suppliers)

@@ -5,10 +5,12 @@
 //! make.
 //!
 //! `make_job` makes that job, for every seed and every number of goods and suppliers within the limits, and promises
-//! that it has a feasible purchase: all that is needed, from one supplier.
+//! that it has a feasible purchase: all that is needed, from one supplier. `laws` has that the drawn parts are well formed
+//! and pass every test, and that they make one job.
 #![tactic(auto)]
 
 mod draws;
+pub mod laws;
 mod make;
 mod offers;
 

@@ -14,3 +14,5 @@ pub mod JobSame
 pub mod SameNumbers
 pub mod Froms
 pub mod FromsExist
+pub mod Changes
+pub mod Cheaper

@@ -18,3 +18,6 @@ pub mod Formed
 pub mod Built
 pub mod Rows
 pub mod Refused
+pub mod Change
+pub mod Cuts
+pub mod Optimum

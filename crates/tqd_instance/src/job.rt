@@ -230,6 +230,24 @@ impl Job {
         }
     }
 
+    pub(crate) fn needs(&self) -> &Numbers
+        ensures { result.now ≡ self.now.needs }
+    {
+        &self.needs
+    }
+
+    pub(crate) fn mosts(&self) -> &Numbers
+        ensures { result.now ≡ self.now.mosts }
+    {
+        &self.mosts
+    }
+
+    pub(crate) fn sellers(&self) -> &Suppliers
+        ensures { result.now ≡ self.now.suppliers }
+    {
+        &self.suppliers
+    }
+
     pub(crate) fn same_limits(&self, other: &Job) -> bool
         ensures { IsTrue result
             ↔ ((self.now.least_winners ≡ other.now.least_winners) × (self.now.most_winners ≡ other.now.most_winners)) }

@@ -1,5 +1,5 @@
 //! What follows from the definitions alone: functions without a body that computes, whose contracts are the laws.
-ghost use Rattle.std.specs.Prelude.{List, ℕ, ◌<◌, ◌≡◌, ◌↔◌};
+ghost use Rattle.std.specs.Prelude.{List, ℕ, ◌<◌, ◌≤◌, ◌≡◌, ◌↔◌};
 ghost use Rattle.tqd_instance.specs.Job.{suppliers};
 ghost use Rattle.tqd_instance.specs.InRange.{IsInRange};
 ghost use Rattle.tqd_instance.specs.Parts.{AreFroms, IsWellFormed};
@@ -7,6 +7,7 @@ ghost use Rattle.tqd_instance.specs.Built.{IsJobOf};
 ghost use Rattle.tqd_instance.specs.declared.job.Job.{Job};
 ghost use Rattle.tqd_instance.specs.Picks.{PicksWhereItLies};
 ghost use Rattle.tqd_instance.specs.Same.{HasSameNumbers};
+ghost use Rattle.tqd_instance.specs.Optimum.{IsCheaper, IsLeastCost, IsNoDearer};
 
 use crate::job::Job;
 use crate::parts::JobParts;
@@ -39,4 +40,15 @@ pub fn parts_describe_one_job(_parts: &JobParts)
 /// Two jobs are equal exactly where all their numbers are: so `Job::same` compares these.
 pub fn equal_numbers_make_jobs_equal()
     ensures { (a b : Job) → (a ≡ b) ↔ HasSameNumbers a b }
+{}
+
+/// What is feasible in a job is feasible, and costs no more, in one that asks for the same at prices and fees that are no
+/// higher and within winner limits that are no narrower.
+pub fn cheaper_jobs_are_no_dearer()
+    ensures { (a b : Job) → IsCheaper a b → IsNoDearer a b }
+{}
+
+/// So the least cost of that job is no higher.
+pub fn least_costs_are_no_higher()
+    ensures { (a b : Job) → IsNoDearer a b → (c d : ℕ) → IsLeastCost a c → IsLeastCost b d → d ≤ c }
 {}

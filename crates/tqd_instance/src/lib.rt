@@ -8,17 +8,23 @@
 //! refusal exactly where its test is the first. `JobParts::is_well_formed` tests parts of which that is not known.
 //! `Job::standing` says whether a plan is feasible and what it costs, or which test of feasibility it fails first;
 //! `Job::pick` gives the segment that a total selects. `Job::same` says whether two jobs have the same numbers.
+//! `Job::with_most_winners` and `Job::cut_prices` make the job with that change alone. What finds the least cost of a job,
+//! or that no purchase is feasible, is an `Optimum`.
 //! `laws` has what follows from the definitions alone: the ranges of a job's numbers, what a pick is, that well-formed
-//! parts describe one job, and that two jobs with the same numbers are one.
+//! parts describe one job, that two jobs with the same numbers are one, and that a job with lower prices or wider winner
+//! limits has no higher least cost.
 #![tactic(auto)]
 
 mod build;
+mod change;
+mod copy;
 mod formed;
 mod job;
 mod lacks;
 pub mod laws;
 mod list;
 mod offers;
+mod optimum;
 mod parts;
 mod plan;
 mod same;
@@ -29,6 +35,7 @@ mod supplier;
 
 pub use job::Job;
 pub use list::Numbers;
+pub use optimum::Optimum;
 pub use parts::{
     FeeRow, JobFault, JobParts, Over, OverRow, PriceRow, ShareRow, StockRow, TotalRow,
 };
