@@ -1,3 +1,4 @@
+pub mod Roots
 pub mod Signed
 pub mod SignedSums
 pub mod PriceReads
@@ -5,6 +6,8 @@ pub mod SegmentValues
 pub mod BoxPlaces
 pub mod Narrowing
 pub mod NarrowedValues
+pub mod OtherBoxes
+pub mod RootValues
 pub mod Duality
 pub mod Soundness
 pub mod OneList
@@ -16,11 +19,20 @@ pub mod ReadLines
 pub mod RowReads
 pub mod Texts
 pub mod TreeLines
+pub mod Zeros
 pub mod Writing
 pub mod WritingLines
+pub mod WritingShared
+pub mod SharedNodes
 pub mod LineTexts
 pub mod LineReads
 pub mod Unique
 pub mod PlanTexts
 pub mod TreeTexts
+pub mod SlotTrees
+pub mod Unfolding
+pub mod SameRows
+pub mod SlotTables
+pub mod RootRows
+pub mod SlotTexts
 pub mod LineLaws

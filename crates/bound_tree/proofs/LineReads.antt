@@ -9,12 +9,12 @@ use Rattle.tqd_base.specs.World.{Bytes}
 use Rattle.money.specs.Number.{count_of, signed_of}
 use Rattle.money.proofs.Counts.{counts_are_shortest, signed_are_shortest}
 use Rattle.bound_tree.specs.declared.word.Word.{Word}
-use Rattle.bound_tree.specs.declared.word.Word.TheVariants.{Header as HeaderWord, NoPlan as NoPlanWord, Plan as PlanWord, Buy as BuyWord, Split as SplitWord, Bound as BoundWord, Empty as EmptyWord, Winners as WinnersWord}
+use Rattle.bound_tree.specs.declared.word.Word.TheVariants.{Header as HeaderWord, NoPlan as NoPlanWord, Plan as PlanWord, Buy as BuyWord, Split as SplitWord, Row as RowWord, Bound as BoundWord, Empty as EmptyWord, Winners as WinnersWord}
 use Rattle.bound_tree.specs.declared.line.TreeLine.{TreeLine}
-use Rattle.bound_tree.specs.declared.line.TreeLine.TheVariants.{Header, NoPlan, Plan, Buy, Split, Bound, Empty, Winners}
+use Rattle.bound_tree.specs.declared.line.TreeLine.TheVariants.{Header, Header2, NoPlan, Plan, Buy, Split, Row, Bound, Empty, Winners}
 use Rattle.bound_tree.specs.Words.{words, numbers_of}
 use Rattle.bound_tree.specs.LineWords.{word_text, word_of}
-use Rattle.bound_tree.specs.ReadLine.{read_counts, read_as, read_words, read_text}
+use Rattle.bound_tree.specs.ReadLine.{read_counts, read_row, read_as, read_words, read_text}
 use Rattle.bound_tree.specs.LineText.{fields_text, line_word, line_numbers, line_text, IsSpelled}
 use Rattle.bound_tree.proofs.LineTexts.{line_words, words_back, word_back, word_from}
 
@@ -82,13 +82,20 @@ read_counted word ns by small =
     ap (read_as word) (sym (counts_numbers ns)) ∙ (by (map decimal ns)
     ∙ ap (option_and_then (read_counts word)) (numbers_back count_of decimal (λ n. n < 10 ^ 23) counts ns (small_counts ns small)))
 
+row_back : (slot : ℕ) (prices : List ℤ) → All IsShortPrice (pos slot ∷ prices) → read_row (map signed_decimal (pos slot ∷ prices)) ≡ Some (Row slot prices)
+row_back slot prices small =
+    ap (option_and_then (λ n. option_map (Row n) (numbers_of signed_of (map signed_decimal prices)))) (counts.to slot (All-head IsShortPrice (pos slot) prices small))
+    ∙ ap (option_map (Row slot)) (numbers_back signed_of signed_decimal IsShortPrice signed prices (All-tail IsShortPrice (pos slot) prices small))
+
 read_line_as : (line : TreeLine) → IsSpelled line → read_as (line_word line) (map signed_decimal (line_numbers line)) ≡ Some line
 unfolding read_as read_counts
 read_line_as Header small = read_counted HeaderWord (1 ∷ []) (λ _. refl) small
+read_line_as Header2 small = read_counted HeaderWord (2 ∷ []) (λ _. refl) small
 read_line_as NoPlan small = read_counted NoPlanWord [] (λ _. refl) small
 read_line_as (Plan cost count) small = read_counted PlanWord (cost ∷ count ∷ []) (λ _. refl) small
 read_line_as (Buy supplier good units) small = read_counted BuyWord (supplier ∷ good ∷ units ∷ []) (λ _. refl) small
 read_line_as (Split supplier segment) small = read_counted SplitWord (supplier ∷ segment ∷ []) (λ _. refl) small
+read_line_as (Row slot prices) small = row_back slot prices small
 read_line_as (Bound prices) small = ap (option_map Bound) (numbers_back signed_of signed_decimal IsShortPrice signed prices small)
 read_line_as (Empty prices) small = ap (option_map Empty) (numbers_back signed_of signed_decimal IsShortPrice signed prices small)
 read_line_as Winners small = read_counted WinnersWord [] (λ _. refl) small
@@ -112,14 +119,16 @@ line_is word numbers here line e w n = let is : here ≡ line = cc in subst (IsL
 no_line : {P : Type 0} (line : TreeLine) → None ≡ Some line → P
 no_line line e = absurd (cc)
 
-version_line : (version : ℕ) (line : TreeLine) (b : Bool) → eqb version 1 ≡ b → (if b then Some Header else None) ≡ Some line → IsLine HeaderWord (pos version ∷ []) line
-version_line version line true is e = line_is HeaderWord (pos version ∷ []) Header line e refl (ap (λ (n : ℕ). pos n ∷ []) (sym (eqb-true version 1 is)))
-version_line version line false is e = no_line line e
+version_line : (version : ℕ) (line : TreeLine) (b c : Bool) → eqb version 1 ≡ b → eqb version 2 ≡ c → (if b then Some Header else if c then Some Header2 else None) ≡ Some line
+    → IsLine HeaderWord (pos version ∷ []) line
+version_line version line true c is also e = line_is HeaderWord (pos version ∷ []) Header line e refl (ap (λ (n : ℕ). pos n ∷ []) (sym (eqb-true version 1 is)))
+version_line version line false true is also e = line_is HeaderWord (pos version ∷ []) Header2 line e refl (ap (λ (n : ℕ). pos n ∷ []) (sym (eqb-true version 2 also)))
+version_line version line false false is also e = no_line line e
 
 counts_line : (word : Word) (ns : List ℕ) (line : TreeLine) → read_counts word ns ≡ Some line → IsLine word (map pos ns) line
 unfolding read_counts
 counts_line HeaderWord [] line e = no_line line e
-counts_line HeaderWord (v ∷ []) line e = version_line v line (eqb v 1) refl e
+counts_line HeaderWord (v ∷ []) line e = version_line v line (eqb v 1) (eqb v 2) refl refl e
 counts_line HeaderWord (v ∷ u ∷ more) line e = no_line line e
 counts_line NoPlanWord [] line e = line_is NoPlanWord [] NoPlan line e refl refl
 counts_line NoPlanWord (v ∷ more) line e = no_line line e
@@ -136,6 +145,7 @@ counts_line SplitWord [] line e = no_line line e
 counts_line SplitWord (v ∷ []) line e = no_line line e
 counts_line SplitWord (v ∷ u ∷ []) line e = line_is SplitWord (pos v ∷ pos u ∷ []) (Split v u) line e refl refl
 counts_line SplitWord (v ∷ u ∷ t ∷ more) line e = no_line line e
+counts_line RowWord ns line e = no_line line e
 counts_line BoundWord ns line e = no_line line e
 counts_line EmptyWord ns line e = no_line line e
 counts_line WinnersWord [] line e = line_is WinnersWord [] Winners line e refl refl
@@ -168,6 +178,21 @@ priced_from word fields line make (Some ps) by is e =
     let w = numbers_from signed_of signed_decimal IsShortPrice signed fields ps is in
     of_numbers word fields ps line (subst (IsLine word ps) same (by ps)) w.texts_are w.small
 
+slot_from : (text : Bytes) (fields : List Bytes) (line : TreeLine) (c : Option ℕ) (o : Option (List ℤ)) → count_of text ≡ c → numbers_of signed_of fields ≡ o
+    → option_and_then (λ n. option_map (Row n) o) c ≡ Some line → IsReadOf RowWord (text ∷ fields) line
+slot_from text fields line None o is also e = no_line line e
+slot_from text fields line (Some n) None is also e = no_line line e
+slot_from text fields line (Some n) (Some ps) is also e =
+    let same : Row n ps ≡ line = cc in
+    let slot = counts.from text n is in
+    let w = numbers_from signed_of signed_decimal IsShortPrice signed fields ps also in
+    of_numbers RowWord (text ∷ fields) (pos n ∷ ps) line (subst (IsLine RowWord (pos n ∷ ps)) same (record { word_is = refl; numbers_are = refl }))
+    (ap (λ (t : Bytes). t ∷ fields) slot.1 ∙ ap (λ (ts : List Bytes). decimal n ∷ ts) w.texts_are) (All-cons IsShortPrice (pos n) ps slot.0 w.small)
+
+row_from : (fields : List Bytes) (line : TreeLine) → read_row fields ≡ Some line → IsReadOf RowWord fields line
+row_from [] line e = no_line line e
+row_from (text ∷ fields) line e = slot_from text fields line (count_of text) (numbers_of signed_of fields) refl refl e
+
 as_from : (word : Word) (fields : List Bytes) (line : TreeLine) → read_as word fields ≡ Some line → IsReadOf word fields line
 unfolding read_as
 as_from HeaderWord fields line e = counted_from HeaderWord fields line (numbers_of count_of fields) refl e
@@ -175,6 +200,7 @@ as_from NoPlanWord fields line e = counted_from NoPlanWord fields line (numbers_
 as_from PlanWord fields line e = counted_from PlanWord fields line (numbers_of count_of fields) refl e
 as_from BuyWord fields line e = counted_from BuyWord fields line (numbers_of count_of fields) refl e
 as_from SplitWord fields line e = counted_from SplitWord fields line (numbers_of count_of fields) refl e
+as_from RowWord fields line e = row_from fields line e
 as_from BoundWord fields line e = priced_from BoundWord fields line Bound (numbers_of signed_of fields) (λ ps. record { word_is = refl; numbers_are = refl }) refl e
 as_from EmptyWord fields line e = priced_from EmptyWord fields line Empty (numbers_of signed_of fields) (λ ps. record { word_is = refl; numbers_are = refl }) refl e
 as_from WinnersWord fields line e = counted_from WinnersWord fields line (numbers_of count_of fields) refl e

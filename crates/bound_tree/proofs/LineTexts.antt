@@ -15,7 +15,7 @@ use Rattle.tqd_base.specs.World.{Bytes}
 use Rattle.money.proofs.Numerals.{own}
 use Rattle.money.proofs.Digits.{digit_value-of}
 use Rattle.bound_tree.specs.declared.word.Word.{Word}
-use Rattle.bound_tree.specs.declared.word.Word.TheVariants.{Header, NoPlan, Plan, Buy, Split, Bound, Empty, Winners}
+use Rattle.bound_tree.specs.declared.word.Word.TheVariants.{Header, NoPlan, Plan, Buy, Split, Row, Bound, Empty, Winners}
 use Rattle.bound_tree.specs.declared.line.TreeLine.{TreeLine}
 use Rattle.bound_tree.specs.Words.{words}
 use Rattle.bound_tree.specs.LineWords.{word_text, word_of, all_words}
@@ -61,6 +61,7 @@ word_lacks byte NoPlan low = letters_lack byte (word_text NoPlan) low refl
 word_lacks byte Plan low = letters_lack byte (word_text Plan) low refl
 word_lacks byte Buy low = letters_lack byte (word_text Buy) low refl
 word_lacks byte Split low = letters_lack byte (word_text Split) low refl
+word_lacks byte Row low = letters_lack byte (word_text Row) low refl
 word_lacks byte Bound low = letters_lack byte (word_text Bound) low refl
 word_lacks byte Empty low = letters_lack byte (word_text Empty) low refl
 word_lacks byte Winners low = letters_lack byte (word_text Winners) low refl
@@ -98,6 +99,7 @@ word_back NoPlan = refl
 word_back Plan = refl
 word_back Buy = refl
 word_back Split = refl
+word_back Row = refl
 word_back Bound = refl
 word_back Empty = refl
 word_back Winners = refl

@@ -16,7 +16,7 @@ use Rattle.bound_tree.proofs.SignedSums.{signed_sum_to-le, least_from-le, le-lea
 use Rattle.bound_tree.proofs.SegmentValues.{segment_value-none}
 
 -- segment 0 has no price, so its value is the same at any
-segment_same : (charges : Charges) (job : Job) (prices : List ℤ) (g h : ℤ) (i j : ℕ) → (1 ≤ j → g ≡ h) → segment_value charges job prices g i j ≡ segment_value charges job prices h i j
+pub segment_same : (charges : Charges) (job : Job) (prices : List ℤ) (g h : ℤ) (i j : ℕ) → (1 ≤ j → g ≡ h) → segment_value charges job prices g i j ≡ segment_value charges job prices h i j
 segment_same charges job prices g h i j same = elim (cases_lt 0 j) [
   | inl some ↦ ap (λ z. segment_value charges job prices z i j) (same some)
   | inr none ↦ (let zero : j ≡ 0 = omega arith in segment_value-none charges job prices g i j zero ∙ sym (segment_value-none charges job prices h i j zero))
@@ -33,7 +33,7 @@ supplier_le charges job area part prices g h i ordered p same =
     subst (λ z. least_from (low_of area i) (high_of area i - low_of area i) (λ j. segment_value charges job prices (g j) i j) ≤ℤ z)
     (segment_same charges job prices (g j) (h j) i j (λ some. same j some admits)) least)
 
-value_by-is : (charges : Charges) (job : Job) (area : IntervalBox) (row : Prices)
+pub value_by-is : (charges : Charges) (job : Job) (area : IntervalBox) (row : Prices)
     → value_by charges job area row ≡ goods_value job row.goods +ℤ signed_sum_to (suppliers job) (λ i. supplier_value charges job area row.goods (segment_price area row i) i)
 unfolding value_by
 value_by-is charges job area row = refl

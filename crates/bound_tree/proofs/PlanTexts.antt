@@ -16,7 +16,7 @@ use Rattle.tqd_instance.proofs.Jobs.{job_in_range}
 use Rattle.tqd_instance.proofs.Picks.{picks_where_it_lies}
 use Rattle.tqd_instance.proofs.SumLemmas.{sum_to-bound, sum_to-suc, sum_to-zeros}
 use Rattle.bound_tree.specs.declared.line.TreeLine.{TreeLine}
-use Rattle.bound_tree.specs.declared.line.TreeLine.TheVariants.{Header, NoPlan, Plan, Buy, Split, Bound, Empty, Winners}
+use Rattle.bound_tree.specs.declared.line.TreeLine.TheVariants.{Header, Header2, NoPlan, Plan, Buy, Split, Row, Bound, Empty, Winners}
 use Rattle.bound_tree.specs.LineText.{HasNumbersBelow}
 use Rattle.bound_tree.specs.TreeText.{lines_to, units_line, buy_line, buy_lines}
 use Rattle.bound_tree.specs.TextLaws.{HasQuantities}
@@ -27,9 +27,11 @@ use Rattle.bound_tree.proofs.WritingLines.{buys_of}
 abbrev units_of : ℕ → ℕ → TreeLine → ℕ
 units_of i k (Buy a b n) = if eqb a i && eqb b k then n else 0
 units_of i k Header = 0
+units_of i k Header2 = 0
 units_of i k NoPlan = 0
 units_of i k (Plan cost count) = 0
 units_of i k (Split a b) = 0
+units_of i k (Row slot prices) = 0
 units_of i k (Bound prices) = 0
 units_of i k (Empty prices) = 0
 units_of i k Winners = 0

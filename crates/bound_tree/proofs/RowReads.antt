@@ -10,6 +10,7 @@ use Rattle.std.specs.Option.{option_map}
 use Rattle.tqd_base.specs.World.{Bytes}
 use Rattle.money.specs.Number.{signed_of}
 use Rattle.bound_tree.specs.Words.{words, numbers_of}
+use Rattle.bound_tree.specs.Fields.{price_words}
 use Rattle.bound_tree.specs.LineHead.{head_of, prices_of, is_beyond, IsRowOf, ReadsPrices}
 use Rattle.bound_tree.proofs.Numbers.{numbers_length}
 use Rattle.bound_tree.proofs.ReadLines.{row_fields}
@@ -18,9 +19,9 @@ use Rattle.bound_tree.proofs.ReadLines.{row_fields}
 pub record HasLeft (prices : List ℤ) (i : ℕ) (fields : List Bytes) : Type 0 where
   pub left : numbers_of signed_of fields ≡ Some (drop i prices)
 
-pub left_at_first : (n : ℕ) (line word : Bytes) (fields : List Bytes) → words line ≡ word ∷ fields → IsRowOf n (head_of line)
+pub left_at_first : (n : ℕ) (line : Bytes) (fields : List Bytes) → fields ≡ price_words (words line) → IsRowOf n (head_of line)
     → HasLeft (prices_of line) 0 fields × (length (prices_of line) ≡ n)
-left_at_first n line word fields e h = let row = row_fields n line word fields e h in (record { left = row.read }, row.count)
+left_at_first n line fields e h = let row = row_fields n line h in (record { left = ap (numbers_of signed_of) e ∙ row.read }, row.count)
 
 pub some_left : (prices : List ℤ) (i : ℕ) (fields : List Bytes) → HasLeft prices i fields → IsSome (numbers_of signed_of fields)
 some_left prices i fields h = rw h.left refl

@@ -1,6 +1,6 @@
 -- Trees are told apart by their texts, and none of these begins another.
-use Rattle.std.proofs.Common.{◌≡◌, ℕ, ◌^◌, ◌<◌, ◌≤◌, ℤ, pos, List, [], ◌∷◌, ◌++◌, map, length, Option, None, Some, refl, sym, ◌∙◌, ap, arith, append_assoc, append-nil, lit<}
-use Rattle.std.proofs.lemmas.List.Elements.{All-nil, All-cons, All-append, All-weaker}
+use Rattle.std.proofs.Common.{◌≡◌, ℕ, ◌^◌, ◌<◌, ℤ, pos, List, [], ◌∷◌, ◌++◌, map, length, Option, None, Some, refl, sym, ◌∙◌, ap, arith, append_assoc, append-nil, lit<}
+use Rattle.std.proofs.lemmas.List.Elements.{All-nil, All-cons, All-append}
 use Rattle.std.specs.List.{All}
 use Rattle.std.specs.Prelude.{unsigned_abs}
 use Rattle.tqd_base.specs.World.{Bytes}
@@ -11,25 +11,21 @@ use Rattle.bound_tree.specs.declared.leaf.Leaf.{Leaf}
 use Rattle.bound_tree.specs.declared.leaf.Leaf.TheVariants.{Bound as BoundLeaf, Empty as EmptyLeaf, Winners as WinnersLeaf}
 use Rattle.bound_tree.specs.declared.line.TreeLine.{TreeLine}
 use Rattle.bound_tree.specs.declared.line.TreeLine.TheVariants.{Header, NoPlan, Plan, Split}
-use Rattle.bound_tree.specs.Prices.{Prices, IsPrice}
+use Rattle.bound_tree.specs.Prices.{Prices}
 use Rattle.bound_tree.specs.BoxTree.{BoxTree, at_leaf, at_split, nodes_of}
 use Rattle.bound_tree.specs.LineText.{HasNumbersBelow}
 use Rattle.bound_tree.specs.TreeText.{all_prices, leaf_line, node_line, plan_lines, buy_lines, ended, lines_text, tree_text}
 use Rattle.bound_tree.specs.TextLaws.{HasQuantities, IsRowFor, IsLeafFor, HasRows, AreSame}
-use Rattle.bound_tree.proofs.Signed.{abs_le}
 use Rattle.bound_tree.proofs.Texts.{map_append}
 use Rattle.bound_tree.proofs.TreeLines.{lines_append, lines_first}
 use Rattle.bound_tree.proofs.Unique.{first_line, same_lines}
 use Rattle.bound_tree.proofs.PlanTexts.{two_small, small_buys, few_buys, cost_small, same_units}
 
-abbrev Small : TreeLine → Type 0
+abbrev pub Small : TreeLine → Type 0
 Small = HasNumbersBelow (10 ^ 64)
 
-price_small : (z : ℤ) → IsPrice z → unsigned_abs z < 10 ^ 64
-price_small z p = let most : unsigned_abs z ≤ 4000000000000000 = abs_le z 4000000000000000 p.not_less p.not_more in omega arith
-
-row_small : (job : Job) (row : Prices) → IsRowFor job row → All (λ z. unsigned_abs z < 10 ^ 64) (all_prices row)
-row_small job row is = All-weaker IsPrice (λ z. unsigned_abs z < 10 ^ 64) price_small (all_prices row) (All-append IsPrice row.goods row.places is.good_prices is.place_prices)
+pub row_small : (job : Job) (row : Prices) → IsRowFor job row → All (λ z. unsigned_abs z < 10 ^ 64) (all_prices row)
+row_small job row is = All-append (λ z. unsigned_abs z < 10 ^ 64) row.goods row.places is.good_prices is.place_prices
 
 leaf_small : (job : Job) (leaf : Leaf) → IsLeafFor job leaf → Small (leaf_line leaf)
 leaf_small job (BoundLeaf row) is = row_small job row is
@@ -47,7 +43,7 @@ same_front (x ∷ xs) (y ∷ ys) vs ws count e =
     let rest = same_front xs ys vs ws (omega arith) others in
     (ap (λ (z : ℤ). z ∷ xs) same ∙ ap (λ (zs : List ℤ). y ∷ zs) rest.0, rest.1)
 
-same_row : (job : Job) (row other : Prices) → IsRowFor job row → IsRowFor job other → all_prices row ≡ all_prices other → row ≡ other
+pub same_row : (job : Job) (row other : Prices) → IsRowFor job row → IsRowFor job other → all_prices row ≡ all_prices other → row ≡ other
 same_row job row other is also e =
     let parts = same_front row.goods other.goods row.places other.places (is.goods ∙ sym also.goods) e in
     λ i. record { goods = parts.0 i; places = parts.1 i }
@@ -85,7 +81,7 @@ split_text i s low high after =
 
 split_small : (job : Job) (i s : ℕ) (low high : BoxTree) → HasRows job (at_split i s low high) → Small (Split i s)
 unfolding HasRows
-split_small job i s low high has = two_small i s (omega (arith, has.0)) (omega (arith, has.1))
+split_small job i s low high has = two_small i s has.0 has.1
 
 leaf_rows : (job : Job) (leaf : Leaf) → HasRows job (at_leaf leaf) → IsLeafFor job leaf
 unfolding HasRows
@@ -129,7 +125,7 @@ plan_small job x within = two_small (cost job x) (length (buy_lines job x)) (cos
 none_small : Small NoPlan
 none_small = All-nil (λ z. unsigned_abs z < 10 ^ 64)
 
-first_text : (line : TreeLine) (lines : List TreeLine) (after : Bytes) → lines_text (line ∷ lines) ++ after ≡ ended line ++ (lines_text lines ++ after)
+pub first_text : (line : TreeLine) (lines : List TreeLine) (after : Bytes) → lines_text (line ∷ lines) ++ after ≡ ended line ++ (lines_text lines ++ after)
 first_text line lines after = ap (λ (t : Bytes). t ++ after) (lines_first line lines) ∙ append_assoc (ended line) (lines_text lines) after
 
 firsts : (line line' : TreeLine) (lines lines' : List TreeLine) (after after' : Bytes) → Small line → Small line' → lines_text (line ∷ lines) ++ after ≡ lines_text (line' ∷ lines') ++ after'
@@ -137,7 +133,7 @@ firsts : (line line' : TreeLine) (lines lines' : List TreeLine) (after after' : 
 firsts line line' lines lines' after after' small small' e =
     first_line line line' (lines_text lines ++ after) (lines_text lines' ++ after') small small' (sym (first_text line lines after) ∙ (e ∙ first_text line' lines' after'))
 
-same_plan : (job : Job) (plan other : Option Purchase) (after after' : Bytes) → HasQuantities job plan → HasQuantities job other
+pub same_plan : (job : Job) (plan other : Option Purchase) (after after' : Bytes) → HasQuantities job plan → HasQuantities job other
     → lines_text (plan_lines job plan) ++ after ≡ lines_text (plan_lines job other) ++ after' → AreSame job plan other × (after ≡ after')
 unfolding lines_text
 same_plan job None None after after' within within' e = (tt, (firsts NoPlan NoPlan [] [] after after' none_small none_small e).1)
@@ -153,10 +149,10 @@ same_plan job (Some x) (Some y) after after' within within' e =
     let rest = same_lines (buy_lines job x) (buy_lines job y) after after' count (small_buys job x within) (small_buys job y within') first.1 in
     (same_units job x y rest.0, rest.1)
 
-header_small : Small Header
+pub header_small : Small Header
 header_small = All-cons (λ z. unsigned_abs z < 10 ^ 64) (pos 1) [] (lit< tt) (All-nil (λ z. unsigned_abs z < 10 ^ 64))
 
-parts_text : (job : Job) (plan : Option Purchase) (tree : BoxTree) (after : Bytes)
+pub parts_text : (job : Job) (plan : Option Purchase) (tree : BoxTree) (after : Bytes)
     → tree_text job plan (nodes_of tree) ++ after ≡ ended Header ++ (lines_text (plan_lines job plan) ++ (nodes_text tree ++ after))
 unfolding tree_text
 parts_text job plan tree after =
@@ -177,8 +173,3 @@ pub texts_differ : (job : Job) (plan other : Option Purchase) (tree tree' : BoxT
     → tree_text job plan (nodes_of tree) ≡ tree_text job other (nodes_of tree') → AreSame job plan other × (tree ≡ tree')
 texts_differ job plan other tree tree' within within' has has' e =
     let same = same_texts job plan other tree tree' [] [] within within' has has' (ap (λ (t : Bytes). t ++ []) e) in (same.0, same.1)
-
-pub none_begins : (job : Job) (plan other : Option Purchase) (tree tree' : BoxTree) (after : Bytes) → HasQuantities job plan → HasQuantities job other → HasRows job tree → HasRows job tree'
-    → tree_text job plan (nodes_of tree) ++ after ≡ tree_text job other (nodes_of tree') → after ≡ []
-none_begins job plan other tree tree' after within within' has has' e =
-    (same_texts job plan other tree tree' after [] within within' has has' (e ∙ sym (append-nil (tree_text job other (nodes_of tree'))))).2

@@ -13,9 +13,9 @@ use Rattle.std.specs.Str.Parse.{digits_value}
 use Rattle.tqd_base.specs.World.{Bytes}
 use Rattle.money.proofs.Digits.{digit_value-of}
 use Rattle.bound_tree.specs.declared.word.Word.{Word}
-use Rattle.bound_tree.specs.declared.word.Word.TheVariants.{Header as HeaderWord, NoPlan as NoPlanWord, Plan as PlanWord, Buy as BuyWord, Split as SplitWord, Bound as BoundWord, Empty as EmptyWord, Winners as WinnersWord}
+use Rattle.bound_tree.specs.declared.word.Word.TheVariants.{Header as HeaderWord, NoPlan as NoPlanWord, Plan as PlanWord, Buy as BuyWord, Split as SplitWord, Row as RowWord, Bound as BoundWord, Empty as EmptyWord, Winners as WinnersWord}
 use Rattle.bound_tree.specs.declared.line.TreeLine.{TreeLine}
-use Rattle.bound_tree.specs.declared.line.TreeLine.TheVariants.{Header, NoPlan, Plan, Buy, Split, Bound, Empty, Winners}
+use Rattle.bound_tree.specs.declared.line.TreeLine.TheVariants.{Header, Header2, NoPlan, Plan, Buy, Split, Row, Bound, Empty, Winners}
 use Rattle.bound_tree.specs.Words.{words}
 use Rattle.bound_tree.specs.LineWords.{word_text, word_of}
 use Rattle.bound_tree.specs.LineText.{fields_text, line_word, line_numbers, line_text, HasNumbersBelow}
@@ -46,7 +46,8 @@ values_back (z ∷ zs) small =
 
 -- the line of a word and numbers
 abbrev rebuilt : Word → List ℤ → TreeLine
-rebuilt HeaderWord zs = Header
+rebuilt HeaderWord (pos version ∷ []) = if eqb version 1 then Header else Header2
+rebuilt HeaderWord _ = NoPlan
 rebuilt NoPlanWord zs = NoPlan
 rebuilt PlanWord (pos cost ∷ pos count ∷ []) = Plan cost count
 rebuilt PlanWord _ = NoPlan
@@ -54,16 +55,20 @@ rebuilt BuyWord (pos supplier ∷ pos good ∷ pos units ∷ []) = Buy supplier 
 rebuilt BuyWord _ = NoPlan
 rebuilt SplitWord (pos supplier ∷ pos segment ∷ []) = Split supplier segment
 rebuilt SplitWord _ = NoPlan
+rebuilt RowWord (pos slot ∷ prices) = Row slot prices
+rebuilt RowWord _ = NoPlan
 rebuilt BoundWord prices = Bound prices
 rebuilt EmptyWord prices = Empty prices
 rebuilt WinnersWord zs = Winners
 
 rebuild : (line : TreeLine) → rebuilt (line_word line) (line_numbers line) ≡ line
 rebuild Header = refl
+rebuild Header2 = refl
 rebuild NoPlan = refl
 rebuild (Plan cost count) = refl
 rebuild (Buy supplier good units) = refl
 rebuild (Split supplier segment) = refl
+rebuild (Row slot prices) = refl
 rebuild (Bound prices) = refl
 rebuild (Empty prices) = refl
 rebuild Winners = refl

@@ -7,8 +7,9 @@ use Rattle.interval_box.specs.Halves.{IsProper, low_half, high_half}
 use Rattle.interval_box.proofs.Split.{low_is_box, high_is_box, in_one_half}
 use Rattle.bound_tree.specs.declared.leaf.Leaf.{Leaf}
 use Rattle.bound_tree.specs.declared.leaf.Leaf.TheVariants.{Bound, Empty, Winners}
-use Rattle.bound_tree.specs.Kills.{Kills, NoneFeasible}
+use Rattle.bound_tree.specs.Kills.{Kills, LeafFits, NoneFeasible}
 use Rattle.bound_tree.specs.BoxTree.{BoxTree, at_leaf, at_split, IsValid, ShowsAll}
+use Rattle.bound_tree.specs.Shared.{IsTreeOf}
 use Rattle.bound_tree.proofs.Soundness.{sound}
 
 -- where no purchase is feasible, none is cheaper
@@ -37,3 +38,15 @@ valid_sound job area best (at_split i s low high) b valid =
     halves_show job area best i s b valid.0
     (valid_sound job (low_half area i s) best low (low_is_box job area i s b valid.0) valid.1)
     (valid_sound job (high_half area i s) best high (high_is_box job area i s b valid.0) valid.2)
+
+leaf_fits : (job : Job) (area : IntervalBox) (best : Option ℕ) (leaf : Leaf) → Kills job area best leaf → LeafFits job area leaf
+leaf_fits job area best (Bound row) kills = kills.0
+leaf_fits job area best (Empty row) kills = kills.0
+leaf_fits job area best Winners kills = tt
+
+-- the rows of a valid tree fit
+pub valid_is_tree : (job : Job) (area : IntervalBox) (best : Option ℕ) (tree : BoxTree) → IsValid job best area tree → IsTreeOf job area tree
+unfolding IsValid IsTreeOf
+valid_is_tree job area best (at_leaf leaf) valid = leaf_fits job area best leaf valid
+valid_is_tree job area best (at_split i s low high) valid =
+    (valid.0, valid_is_tree job (low_half area i s) best low valid.1, valid_is_tree job (high_half area i s) best high valid.2)

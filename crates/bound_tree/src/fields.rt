@@ -1,6 +1,7 @@
 ghost use Rattle.std.specs.Prelude.{◌≡◌, ◌==◌, ◌<◌, position, length, IfSome};
 ghost use Rattle.bound_tree.specs.Fields.{CutsAt};
 
+use crate::word::Word;
 use money::{read_count, read_signed};
 use std::marker::Model;
 
@@ -43,7 +44,7 @@ impl<'a> Fields<'a> {
     ghost use Rattle.std.specs.Option.{option_map, option_and_then};
     ghost use Rattle.money.specs.Number.{count_of, signed_of};
     ghost use Rattle.bound_tree.specs.Words.{words, numbers_of};
-    ghost use Rattle.bound_tree.specs.Fields.{TakesField, exactly};
+    ghost use Rattle.bound_tree.specs.Fields.{TakesField, exactly, after_slot, price_fields, price_words};
 
     /// The first word of a line, and the fields after it.
     pub(crate) fn of(line: &'a [u8]) -> (&'a [u8], Fields<'a>)
@@ -51,6 +52,37 @@ impl<'a> Fields<'a> {
     {
         let (word, left) = cut_at(line, b' ');
         (word, Fields { left })
+    }
+
+    /// The fields that write the prices of a row: those after the word, and in a `row` line after the slot.
+    #[tactic(auto, unfolding(crate::specs::Fields::price_words))]
+    pub(crate) fn of_prices(line: &'a [u8]) -> Fields<'a>
+        ensures { result ≡ price_words (words line.now) }
+    {
+        let (word, fields) = Fields::of(line);
+        match Word::of(word) {
+            Some(word) => fields.of_word(word),
+            None => fields,
+        }
+    }
+
+    // Of the fields after a word, those that write prices.
+    fn of_word(self, word: Word) -> Fields<'a>
+        ensures { result ≡ price_fields word self.entry }
+    {
+        match word {
+            Word::Row => self.after_slot(),
+            _ => self,
+        }
+    }
+
+    // The fields after the first one.
+    fn after_slot(self) -> Fields<'a>
+        ensures { result ≡ after_slot self.entry }
+    {
+        let mut fields = self;
+        let _slot = fields.next();
+        fields
     }
 
     /// The next field, if there is one.

@@ -36,8 +36,10 @@ impl SignedList {
 /// A line of a tree, with the numbers that stand in it.
 #[derive(Debug, Drop)]
 pub enum TreeLine {
-    /// The first line, `tqd-tree 1`.
+    /// The first line of a tree with rows in its leaves, `tqd-tree 1`.
     Header,
+    /// The first line of a tree with rows in slots, `tqd-tree 2`.
+    Header2,
     /// There is no plan.
     NoPlan,
     /// The cost of the plan, in millionths of the currency, and the number of the `buy` lines that follow.
@@ -56,9 +58,14 @@ pub enum TreeLine {
         supplier: u128,
         at: u128,
     },
-    /// A leaf with a row of prices, in millionths of the currency.
+    /// A row of prices for the root, in millionths of the currency, that is put into a slot.
+    Row {
+        slot: u128,
+        prices: SignedList,
+    },
+    /// A leaf with a row of prices, in millionths of the currency, or with the number of a slot alone.
     Bound(SignedList),
-    /// A leaf with a row of prices whose free value is above 0.
+    /// A leaf with a row of prices whose free value is above 0, or with the number of a slot alone.
     Empty(SignedList),
     /// A leaf by the winner limits.
     Winners,
@@ -68,6 +75,7 @@ pub enum TreeLine {
 #[derive(Clone, Copy, Debug, PartialEq, Eq)]
 pub enum LineHead {
     Header,
+    Header2,
     NoPlan,
     Plan {
         cost: u128,
@@ -81,6 +89,11 @@ pub enum LineHead {
     Split {
         supplier: u128,
         at: u128,
+    },
+    /// `count` is the number of prices, without the slot.
+    Row {
+        slot: u128,
+        count: u64,
     },
     /// `count` is the number of prices.
     Bound {

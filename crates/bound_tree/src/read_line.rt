@@ -1,11 +1,12 @@
 ghost use Rattle.std.specs.Prelude.{◌≡◌, ◌≤◌, true, false, length, MatchOption};
 ghost use Rattle.std.specs.Option.{option_map};
-ghost use Rattle.bound_tree.specs.ReadLine.{read_as};
+ghost use Rattle.bound_tree.specs.ReadLine.{header_by, read_row, read_as};
 ghost use Rattle.bound_tree.specs.LineHead.{without_prices, head_of, prices_of, is_beyond, IsRowOf, ReadsPrices};
 
 use crate::fields::Fields;
 use crate::line::LineHead;
-use crate::word::{VERSION, Word};
+use crate::word::{ROWS, SLOTS, Word};
+use money::read_count;
 use tqd_base::limits::{DUAL_MAX, LINE_MAX};
 
 /// What one line of a tree says, but for its prices; the line is given without its line feed.
@@ -31,11 +32,7 @@ fn head_by(word: Word, fields: Fields<'_>) -> Option<LineHead>
     match word {
         Word::Header => {
             let [version] = fields.counts::<1>()?;
-            if version == VERSION {
-                Some(LineHead::Header)
-            } else {
-                None
-            }
+            header_of(version)
         }
         Word::NoPlan => {
             let [] = fields.counts::<0>()?;
@@ -57,6 +54,7 @@ fn head_by(word: Word, fields: Fields<'_>) -> Option<LineHead>
             let [supplier, at] = fields.counts::<2>()?;
             Some(LineHead::Split { supplier, at })
         }
+        Word::Row => row_head(fields),
         Word::Bound => Some(LineHead::Bound {
             count: fields.price_count()?,
         }),
@@ -70,6 +68,28 @@ fn head_by(word: Word, fields: Fields<'_>) -> Option<LineHead>
     }
 }
 
+// The first line of a tree in the format of this version.
+fn header_of(version: u128) -> Option<LineHead>
+    ensures { result ≡ option_map without_prices (header_by version) }
+{
+    match version {
+        ROWS => Some(LineHead::Header),
+        SLOTS => Some(LineHead::Header2),
+        _ => None,
+    }
+}
+
+// The slot of a row, and how many prices come after it.
+fn row_head(fields: Fields<'_>) -> Option<LineHead>
+    requires { length fields ≤ 65537 }
+    ensures { result ≡ option_map without_prices (read_row fields.entry) }
+{
+    let mut prices = fields;
+    let slot = read_count(prices.next()?)?;
+    let count = prices.price_count()?;
+    Some(LineHead::Row { slot, count })
+}
+
 /// Reads the prices of a row, in millionths of the currency, into as many places.
 ///
 /// `Some` with the first price beyond `DUAL_MAX` in absolute value, if there is one; then the places hold anything.
@@ -77,7 +97,7 @@ pub fn prices_into(line: &[u8], out: &mut [i64]) -> Option<i128>
     requires { IsRowOf (length out.old) (head_of line.now) }
     ensures { ReadsPrices (prices_of line.now) out.new result }
 {
-    let (_, mut fields) = Fields::of(line);
+    let mut fields = Fields::of_prices(line);
     for place in out.iter_mut() {
         let price = fields.next_price();
         match within_limit(price) {

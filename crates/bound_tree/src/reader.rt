@@ -76,6 +76,7 @@ fn tree_line(alloc: Global, line: &[u8]) -> Result<Option<TreeLine>, Memory>
     };
     Ok(Some(match head {
         LineHead::Header => TreeLine::Header,
+        LineHead::Header2 => TreeLine::Header2,
         LineHead::NoPlan => TreeLine::NoPlan,
         LineHead::Plan { cost, count } => TreeLine::Plan { cost, count },
         LineHead::Buy {
@@ -88,6 +89,10 @@ fn tree_line(alloc: Global, line: &[u8]) -> Result<Option<TreeLine>, Memory>
             units,
         },
         LineHead::Split { supplier, at } => TreeLine::Split { supplier, at },
+        LineHead::Row { slot, count } => TreeLine::Row {
+            slot,
+            prices: row_prices(alloc, line, count)?,
+        },
         LineHead::Bound { count } => TreeLine::Bound(row_prices(alloc, line, count)?),
         LineHead::Empty { count } => TreeLine::Empty(row_prices(alloc, line, count)?),
         LineHead::Winners => TreeLine::Winners,
@@ -99,7 +104,7 @@ fn row_prices(alloc: Global, line: &[u8], count: u64) -> Result<SignedList, Memo
     requires { IsRowOf count (head_of line.now) }
     ensures { IfOk result (λ prices. prices ≡ prices_of line.now) }
 {
-    let (_, mut fields) = Fields::of(line);
+    let mut fields = Fields::of_prices(line);
     let mut numbers = Vec::new(alloc);
     for _place in 0..count {
         numbers.push(fields.next_price())?;

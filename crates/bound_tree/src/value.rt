@@ -122,7 +122,7 @@ pub fn segment_value(
 
 /// The least value of the segments in a supplier's range, whose prices are at the places from `at` on.
 #[tactic(auto, unfolding(crate::specs::Prices::first_of, crate::specs::Prices::count_of))]
-fn supplier_value(
+pub(crate) fn supplier_value(
     job: &Job,
     area: &IntervalBox,
     good_prices: &[i64],

@@ -1,5 +1,8 @@
-/// The version of the format.
-pub(crate) const VERSION: u128 = 1;
+/// The version of the format that has rows in its leaves.
+pub(crate) const ROWS: u128 = 1;
+
+/// The version of the format that has rows in slots.
+pub(crate) const SLOTS: u128 = 2;
 
 /// The words that the lines of a tree begin with.
 #[derive(Clone, Copy, Debug, PartialEq, Eq)]
@@ -9,6 +12,7 @@ pub(crate) enum Word {
     Plan,
     Buy,
     Split,
+    Row,
     Bound,
     Empty,
     Winners,
@@ -28,6 +32,7 @@ impl Word {
             Word::Plan => "plan",
             Word::Buy => "buy",
             Word::Split => "split",
+            Word::Row => "row",
             Word::Bound => "bound",
             Word::Empty => "empty",
             Word::Winners => "winners",
@@ -45,6 +50,7 @@ impl Word {
             Word::Plan,
             Word::Buy,
             Word::Split,
+            Word::Row,
             Word::Bound,
             Word::Empty,
             Word::Winners,

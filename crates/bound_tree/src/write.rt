@@ -10,7 +10,7 @@ ghost use Rattle.bound_tree.specs.WriteTree.{purchase_of, IsPriced, WriteGives};
 
 use crate::text::{counts_line, node_line};
 use crate::tree::Tree;
-use crate::word::{VERSION, Word};
+use crate::word::{ROWS, Word};
 use std::alloc::Global;
 use tqd_base::{Desk, DeskStop, Memory};
 use tqd_instance::{Job, Plan};
@@ -67,13 +67,13 @@ pub fn write_tree<D: Desk>(
     ensures { WriteGives (D.state desk.old) (D.state desk.new) slot
         (tree_text job.now (purchase_of plan.entry) tree.now) result }
 {
-    put_counts(alloc, Word::Header, &[VERSION], desk, slot)?;
+    put_counts(alloc, Word::Header, &[ROWS], desk, slot)?;
     put_given(alloc, job, plan, desk, slot)?;
     put_nodes(alloc, tree, desk, slot)
 }
 
 // The plan, or that there is none.
-fn put_given<D: Desk>(
+pub(crate) fn put_given<D: Desk>(
     alloc: Global,
     job: &Job,
     plan: Option<(&Plan, u128)>,
@@ -92,7 +92,7 @@ fn put_given<D: Desk>(
 }
 
 // The line of a word and counts.
-fn put_counts<D: Desk>(
+pub(crate) fn put_counts<D: Desk>(
     alloc: Global,
     word: Word,
     counts: &[u128],
@@ -106,7 +106,7 @@ fn put_counts<D: Desk>(
     put_line(&line, desk, slot)
 }
 
-fn put_line<D: Desk>(line: &[u8], desk: &mut D, slot: u32) -> Result<(), WriteStop>
+pub(crate) fn put_line<D: Desk>(line: &[u8], desk: &mut D, slot: u32) -> Result<(), WriteStop>
     requires { Writes ((D.state desk.old).world.slots slot) }
     ensures { WriteGives (D.state desk.old) (D.state desk.new) slot line.now result }
 {

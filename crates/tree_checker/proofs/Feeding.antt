@@ -1,16 +1,15 @@
 -- What a run was fed is what a slot gave up.
-use Rattle.std.proofs.Common.{ℕ, ◌≡◌, ◌≢◌, ◌+◌, ◌-◌, ◌<◌, ◌≤◌, List, [], ◌∷◌, ◌++◌, length, take, drop, Option, Some, None, Result, Ok, Err, refl, ap, sym, ◌∙◌, subst, arith, length-append, append_assoc, append-nil, take-add}
+use Rattle.std.proofs.Common.{ℕ, ◌≡◌, ◌+◌, ◌-◌, ◌<◌, ◌≤◌, [], ◌++◌, length, take, drop, Option, Some, None, Result, Ok, Err, refl, ap, sym, ◌∙◌, subst, arith, length-append, append_assoc, append-nil, take-add}
 use Rattle.std.specs.Prelude.{IfSome, IsSome, IsErrAnd, option_and_then, unwrap_or}
 use Rattle.std.specs.Option.{option_map}
-use Rattle.std.proofs.lemmas.List.{length-take-le, take-append-drop, take-append-le}
+use Rattle.std.proofs.lemmas.List.{length-take-le}
 use Rattle.std.proofs.Math.Seq.{take-append_seam, take-append-add}
 use Rattle.tqd_base.specs.declared.desk.DeskStop.{DeskStop}
 use Rattle.tqd_base.specs.declared.desk.DeskStop.TheVariants.{Failed, Memory as NoMemory}
 use Rattle.tqd_base.specs.declared.limits.TheConstants.{TREE_MAX}
-use Rattle.tqd_base.specs.World.{World, State, Name, Bytes, Slot, Reads, NeverFall, Rose, set_slot, left_at, left_of, name_at, name_of, shortened, Reading, Writing}
-use Rattle.tqd_base.specs.Calls.{Takes, TakeGives, Moves, FailsReading}
-use Rattle.tqd_base.specs.TakeAll.{Drains}
-use Rattle.tqd_base.proofs.Taken.{Taken, taken_none, taken_more, slots_after, reads_after, drains, never_fall_trans}
+use Rattle.tqd_base.specs.World.{World, State, Name, Bytes, Slot, Reads, Rose, set_slot, left_at, left_of, name_at, name_of, shortened, Reading, Writing}
+use Rattle.tqd_base.specs.Calls.{Takes, TakeGives, Moves}
+use Rattle.tqd_base.proofs.Taken.{Taken, taken_more, slots_after, drains, never_fall_trans}
 use Rattle.tqd_instance.specs.declared.job.Job.{Job}
 use Rattle.tree_checker.specs.declared.run.CheckRun.{CheckRun}
 use Rattle.tree_checker.specs.declared.rejection.Rejection.{Rejection}
@@ -19,9 +18,9 @@ use Rattle.tree_checker.specs.declared.rejection.Verdict.TheVariants.{Rejected}
 use Rattle.tree_checker.specs.declared.rejection.Feed.{Feed}
 use Rattle.tree_checker.specs.declared.rejection.Feed.TheVariants.{More, Rejected as FeedRejected}
 use Rattle.tree_checker.specs.declared.checking.CheckStop.{CheckStop}
-use Rattle.tree_checker.specs.declared.checking.CheckStop.TheVariants.{Fault, Size}
+use Rattle.tree_checker.specs.declared.checking.CheckStop.TheVariants.{Size}
 use Rattle.tree_checker.specs.CheckStops.{check_stop_of}
-use Rattle.tree_checker.specs.CheckFrom.{IsStopped, IsTooLong, IsVerdictOf, CheckFromGives}
+use Rattle.tree_checker.specs.CheckFrom.{IsTooLong, IsVerdictOf, CheckFromGives}
 use Rattle.tree_checker.specs.Verdict.{verdict, IsRejectedFor}
 use Rattle.tree_checker.specs.Run.{Stands, taken_by, AnswersPiece}
 use Rattle.tree_checker.proofs.Pieces.{rejection_stays}

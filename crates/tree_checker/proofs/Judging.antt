@@ -1,5 +1,5 @@
 -- What a judged plan leads to, and the boxes that are due after a node.
-use Rattle.std.proofs.Common.{ℕ, suc, ltb, leb, ◌≡◌, ◌<◌, ◌≤◌, ◌==◌, ◌&&◌, true, false, List, [], ◌∷◌, length, Option, Some, None, Result, Ok, Err, refl, ap, sym, ◌∙◌, subst, arith, eq-eqb}
+use Rattle.std.proofs.Common.{ℕ, ltb, leb, ◌≡◌, ◌<◌, ◌≤◌, ◌==◌, ◌&&◌, true, false, List, [], ◌∷◌, Some, Result, Ok, Err, refl, ap, sym, ◌∙◌, subst, arith, eq-eqb}
 use Rattle.std.specs.List.{All}
 use Rattle.std.proofs.lemmas.Bool.Decides.{nat_tests}
 use Rattle.std.proofs.lemmas.Bool.{and_parts, ltb-true, leb-true}
@@ -23,38 +23,39 @@ use Rattle.tree_checker.specs.declared.rejection.Rejection.{Rejection}
 use Rattle.tree_checker.specs.declared.rejection.Why.TheVariants.{PlanStanding, PlanCost}
 use Rattle.tree_checker.specs.Standing.{standing_of}
 use Rattle.tree_checker.specs.Stack.{IsFirst, without_first, IsSplitFirst}
-use Rattle.tree_checker.specs.Verdict.{Step, from_root, judged, is_split}
-use Rattle.tree_checker.specs.Judged.{HasUnits, Leads, IsSplitPlace}
+use Rattle.tree_checker.specs.declared.slots.RowSlots.{RowSlots}
+use Rattle.tree_checker.specs.Verdict.{RowStore, from_root, judged, is_split}
+use Rattle.tree_checker.specs.Judged.{HasUnits, Leads}
 use Rattle.tree_checker.proofs.Standings.{standing_is, standing_same}
 
 -- the standing of a plan is that of the purchase whose units it has
-pub judged_as : (job : Job) (plan after : Plan) (boxes : List IntervalBox) (result : Result Due Rejection) (said : ℕ) (x : Purchase) (s : Standing)
-    → Stands job (units plan) s → HasUnits job plan x → Leads job after boxes result (judged job said s) → Leads job after boxes result (judged job said (standing_of job x))
-judged_as job plan after boxes result said x s stands same leads =
-    subst (λ (t : Standing). Leads job after boxes result (judged job said t)) (standing_is job (units plan) s stands ∙ standing_same job (units plan) x same) leads
+pub judged_as : (job : Job) (plan after : Plan) (boxes : List IntervalBox) (kept : RowSlots) (store : RowStore) (result : Result Due Rejection) (said : ℕ) (x : Purchase) (s : Standing)
+    → Stands job (units plan) s → HasUnits job plan x → Leads job after boxes kept result (judged job store said s) → Leads job after boxes kept result (judged job store said (standing_of job x))
+judged_as job plan after boxes kept store result said x s stands same leads =
+    subst (λ (t : Standing). Leads job after boxes kept result (judged job store said t)) (standing_is job (units plan) s stands ∙ standing_same job (units plan) x same) leads
 
-pub judged_right : (job : Job) (plan : Plan) (boxes : List IntervalBox) (due : Due) (said real : ℕ) → said ≡ real
-    → Leads job plan boxes (Ok due) (from_root job (Some said)) → Leads job plan boxes (Ok due) (judged job said (Feasible real))
-judged_right job plan boxes due said real e leads = rw (eq-eqb said real e) leads
+pub judged_right : (job : Job) (plan : Plan) (boxes : List IntervalBox) (kept : RowSlots) (store : RowStore) (due : Due) (said real : ℕ) → said ≡ real
+    → Leads job plan boxes kept (Ok due) (from_root job store (Some said)) → Leads job plan boxes kept (Ok due) (judged job store said (Feasible real))
+judged_right job plan boxes kept store due said real e leads = rw (eq-eqb said real e) leads
 
 wrong_test : (said real : ℕ) → (said ≡ real → ⊥) → (said == real) ≡ false
 wrong_test said real other = grind (arith, nat_tests)
 
-rejected_leads : (job : Job) (plan : Plan) (boxes : List IntervalBox) (result : Result Due Rejection) (rejection : Rejection) → result ≡ Err rejection
-    → Leads job plan boxes result (Err rejection)
-rejected_leads job plan boxes result rejection is = subst (λ (r : Result Due Rejection). Leads job plan boxes r (Err rejection)) (sym is) refl
+rejected_leads : (job : Job) (plan : Plan) (boxes : List IntervalBox) (kept : RowSlots) (store : RowStore) (result : Result Due Rejection) (rejection : Rejection) → result ≡ Err rejection
+    → Leads job plan boxes kept result (Err rejection)
+rejected_leads job plan boxes kept store result rejection is = subst (λ (r : Result Due Rejection). Leads job plan boxes kept r (Err rejection)) (sym is) refl
 
-pub judged_wrong : (job : Job) (plan : Plan) (boxes : List IntervalBox) (result : Result Due Rejection) (said real : ℕ) → (said ≡ real → ⊥)
-    → result ≡ Err (record { line = 2; why = PlanCost said real }) → Leads job plan boxes result (judged job said (Feasible real))
-judged_wrong job plan boxes result said real other is = rw (wrong_test said real other) (rejected_leads job plan boxes result _ is)
+pub judged_wrong : (job : Job) (plan : Plan) (boxes : List IntervalBox) (kept : RowSlots) (store : RowStore) (result : Result Due Rejection) (said real : ℕ) → (said ≡ real → ⊥)
+    → result ≡ Err (record { line = 2; why = PlanCost said real }) → Leads job plan boxes kept result (judged job store said (Feasible real))
+judged_wrong job plan boxes kept store result said real other is = rw (wrong_test said real other) (rejected_leads job plan boxes kept store result _ is)
 
-pub judged_failing : (job : Job) (plan : Plan) (boxes : List IntervalBox) (result : Result Due Rejection) (said : ℕ) (s : Standing) → ((real : ℕ) → s ≡ Feasible real → ⊥)
-    → result ≡ Err (record { line = 2; why = PlanStanding s }) → Leads job plan boxes result (judged job said s)
-judged_failing job plan boxes result said (Feasible real) other is = absurd (other real refl)
-judged_failing job plan boxes result said (Need good sum) other is = rejected_leads job plan boxes result _ is
-judged_failing job plan boxes result said (Stock i k) other is = rejected_leads job plan boxes result _ is
-judged_failing job plan boxes result said (Gap i units) other is = rejected_leads job plan boxes result _ is
-judged_failing job plan boxes result said (Winners number) other is = rejected_leads job plan boxes result _ is
+pub judged_failing : (job : Job) (plan : Plan) (boxes : List IntervalBox) (kept : RowSlots) (store : RowStore) (result : Result Due Rejection) (said : ℕ) (s : Standing) → ((real : ℕ) → s ≡ Feasible real → ⊥)
+    → result ≡ Err (record { line = 2; why = PlanStanding s }) → Leads job plan boxes kept result (judged job store said s)
+judged_failing job plan boxes kept store result said (Feasible real) other is = absurd (other real refl)
+judged_failing job plan boxes kept store result said (Need good sum) other is = rejected_leads job plan boxes kept store result _ is
+judged_failing job plan boxes kept store result said (Stock i k) other is = rejected_leads job plan boxes kept store result _ is
+judged_failing job plan boxes kept store result said (Gap i units) other is = rejected_leads job plan boxes kept store result _ is
+judged_failing job plan boxes kept store result said (Winners number) other is = rejected_leads job plan boxes kept store result _ is
 
 -- the box on top, with what is below it
 pub first_of_all : (boxes : List IntervalBox) (area : IntervalBox) → IsFirst boxes (Some area) → boxes ≡ area ∷ without_first boxes

@@ -1,6 +1,6 @@
 -- Rows without a fault fit their box.
-use Rattle.std.proofs.Common.{ℕ, ℤ, ◌≡◌, ◌==◌, ◌&&◌, not, Bool, true, false, List, [], ◌∷◌, length, find, Option, Some, None, if◌then◌else◌, refl, ap, sym, ◌∙◌, arith, neg_ℤ}
-use Rattle.std.specs.Prelude.{int_le, ◌≤ℤ◌, eqb}
+use Rattle.std.proofs.Common.{ℤ, ◌≡◌, ◌==◌, Bool, true, false, List, [], ◌∷◌, length, find, Option, Some, None, if◌then◌else◌, refl, arith, neg_ℤ}
+use Rattle.std.specs.Prelude.{int_le}
 use Rattle.std.specs.Option.{option_map}
 use Rattle.std.specs.List.{All}
 use Rattle.std.proofs.lemmas.Bool.{and_parts, not-false, eqb-true}
@@ -8,10 +8,9 @@ use Rattle.std.proofs.lemmas.Int.{ints}
 use Rattle.std.proofs.lemmas.List.Elements.{All-nil, All-cons}
 use Rattle.tqd_base.specs.declared.limits.TheConstants.{DUAL_MAX}
 use Rattle.tqd_instance.specs.declared.job.Job.{Job}
-use Rattle.tqd_instance.specs.Job.{goods, suppliers}
 use Rattle.interval_box.specs.declared.boxes.IntervalBox.{IntervalBox}
 use Rattle.bound_tree.specs.LineHead.{is_beyond}
-use Rattle.bound_tree.specs.Prices.{IsPrice, Fits, row_of, places_to, AreFitting}
+use Rattle.bound_tree.specs.Prices.{IsPrice, Fits, row_of}
 use Rattle.bound_tree.proofs.OneList.{fits_as_one}
 use Rattle.tree_checker.specs.declared.rejection.Why.{Why}
 use Rattle.tree_checker.specs.declared.rejection.Why.TheVariants.{RowLength, PriceRange}

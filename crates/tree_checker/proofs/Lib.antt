@@ -1,9 +1,10 @@
 pub mod FirstTo
 pub mod Standings
-pub mod Roots
 pub mod Stacks
 pub mod Leaves
 pub mod Heads
+pub mod HeldRows
+pub mod Nodes
 pub mod Judging
 pub mod Dues
 pub mod Bytewise

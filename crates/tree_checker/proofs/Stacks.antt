@@ -11,9 +11,9 @@ use Rattle.interval_box.specs.declared.boxes.IntervalBox.{IntervalBox}
 use Rattle.interval_box.specs.Ranges.{low_of, high_of}
 use Rattle.interval_box.specs.Halves.{IsProper, low_half, high_half}
 use Rattle.interval_box.proofs.Places.{low_half-low, low_half-high, low_half-high_other, high_half-high, high_half-low, high_half-low_other}
-use Rattle.tree_checker.specs.Root.{root_of}
+use Rattle.bound_tree.specs.Root.{root_of}
 use Rattle.tree_checker.specs.Stack.{splits_left, HasPlaces, IsRoomy, IsSplitFirst, without_first}
-use Rattle.tree_checker.proofs.Roots.{root_lows, root_highs, root_width}
+use Rattle.bound_tree.proofs.Roots.{root_lows, root_highs, root_width}
 
 -- a sum with one value below another's, and none above
 sum_to-less : (n : ℕ) (f g : ℕ → ℕ) (i : ℕ) → i < n → f i < g i → ((k : ℕ) → f k ≤ g k) → sum_to n f < sum_to n g

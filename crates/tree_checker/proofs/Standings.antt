@@ -1,19 +1,18 @@
 -- The standing of a purchase is one, and it rests on the units of the job's size alone.
-use Rattle.std.proofs.Common.{ℕ, ◌≡◌, ◌<◌, ◌≤◌, ◌+◌, ◌*◌, ◌==◌, ◌||◌, ◌⊎◌, not, Bool, true, false, Option, Some, None, IsSome, if◌then◌else◌, ltb, refl, ap, sym, ◌∙◌, subst, arith, inl, inr}
+use Rattle.std.proofs.Common.{ℕ, ◌≡◌, ◌<◌, ◌≤◌, ◌+◌, ◌*◌, ◌==◌, ◌||◌, ◌⊎◌, not, true, false, Option, Some, None, IsSome, if◌then◌else◌, ltb, refl, ap, sym, ◌∙◌, subst, arith}
 use Rattle.std.specs.Prelude.{is_some}
 use Rattle.std.proofs.lemmas.Bool.{lt-ltb, le-ltb}
 use Rattle.std.proofs.lemmas.Bool.Decides.{nat_tests}
-use Rattle.tqd_base.specs.Sum.{sum_to}
 use Rattle.tqd_instance.specs.declared.job.Job.{Job}
 use Rattle.tqd_instance.specs.declared.standing.Standing.{Standing}
 use Rattle.tqd_instance.specs.declared.standing.Standing.TheVariants.{Feasible as IsFeasible, Need, Stock, Gap, Winners}
-use Rattle.tqd_instance.specs.Job.{goods, suppliers, need, most, stock, price, fee, pick, least_winners, most_winners}
+use Rattle.tqd_instance.specs.Job.{goods, suppliers, need, most, stock, price, pick, least_winners, most_winners}
 use Rattle.tqd_instance.specs.Purchase.{Purchase, total, bought, wins, winners}
-use Rattle.tqd_instance.specs.Feasible.{Feasible, MeetsNeed, MeetsStock, HasPick, MeetsNeeds, MeetsStocks, HasPicks}
+use Rattle.tqd_instance.specs.Feasible.{Feasible, MeetsStock, MeetsNeeds, MeetsStocks, HasPicks}
 use Rattle.tqd_instance.specs.Cost.{cost, selected, goods_cost, fee_cost}
 use Rattle.tqd_instance.specs.Standing.{FailsNeed, FailsStock, FailsPick, FailsWinners, Stands}
 use Rattle.tqd_instance.proofs.SumLemmas.{sum_to-same}
-use Rattle.tree_checker.specs.Standing.{first_to, fails_need, fails_stock, over_stock, fails_pick, fails_winners, by_winners, by_pick, by_stock, by_need, standing_of}
+use Rattle.tree_checker.specs.Standing.{first_to, fails_need, fails_stock, over_stock, fails_pick, by_winners, by_pick, by_stock, by_need, standing_of}
 use Rattle.tree_checker.proofs.FirstTo.{first_to-none, first_to-some, first_to-same, first_to-below}
 
 outside : (a least most : ℕ) → (a < least) ⊎ (most < a) → (ltb a least || ltb most a) ≡ true

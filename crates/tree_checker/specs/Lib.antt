@@ -1,11 +1,11 @@
 pub mod Standing
-pub mod Root
 pub mod LineEnd
 pub mod Verdict
 pub mod ByHead
 pub mod LineRoom
 pub mod Buffer
 pub mod Stack
+pub mod SlotRows
 pub mod Judged
 pub mod Run
 pub mod CheckStops

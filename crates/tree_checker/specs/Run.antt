@@ -10,6 +10,7 @@ use Rattle.interval_box.specs.declared.boxes.IntervalBox.{IntervalBox}
 use Rattle.tree_checker.specs.declared.buffer.LineBuffer.{LineBuffer}
 use Rattle.tree_checker.specs.declared.due.Due.{Due}
 use Rattle.tree_checker.specs.declared.due.Due.TheVariants.{Ended}
+use Rattle.tree_checker.specs.declared.slots.RowSlots.{RowSlots}
 use Rattle.tree_checker.specs.declared.run.CheckRun.{CheckRun}
 use Rattle.tree_checker.specs.Verdict.{Progress, reading, stopped, at_first, after_bytes, IsRejectedFor}
 use Rattle.tree_checker.specs.Buffer.{Keeps}
@@ -25,12 +26,12 @@ taken_by run = run.taken
 
 -- what is kept is what reading has come to: the number of lines, the line that is not ended yet and what is due; or the
 -- rejection alone
-abbrev pub KeepsProgress : Job → ℕ → LineBuffer → Due → Plan → List IntervalBox → Progress → Type 0
-KeepsProgress job lines buffer due plan boxes (reading ended line phase) = (lines ≡ ended) × Keeps buffer line × IsDue job due plan boxes phase
-KeepsProgress job lines buffer due plan boxes (stopped rejection) = due ≡ Ended rejection
+abbrev pub KeepsProgress : Job → ℕ → LineBuffer → Due → Plan → List IntervalBox → RowSlots → Progress → Type 0
+KeepsProgress job lines buffer due plan boxes kept (reading ended line phase) = (lines ≡ ended) × Keeps buffer line × IsDue job due plan boxes kept phase
+KeepsProgress job lines buffer due plan boxes kept (stopped rejection) = due ≡ Ended rejection
 
 abbrev pub IsAt : CheckRun → Progress → Type 0
-IsAt run = KeepsProgress run.judge.job.now run.lines run.line run.judge.due run.judge.plan run.judge.boxes
+IsAt run = KeepsProgress run.judge.job.now run.lines run.line run.judge.due run.judge.plan run.judge.boxes run.judge.slots
 
 -- what a run keeps is what these bytes lead to
 unfoldable pub Stands : CheckRun → Bytes → Type 0

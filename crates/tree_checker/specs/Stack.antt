@@ -1,6 +1,5 @@
 -- Boxes in a stack that has room for every tree: a split takes one box off and puts its halves on.
-use Rattle.std.specs.Prelude.{ℕ, ◌≡◌, ◌+◌, ◌-◌, ◌<◌, ◌≤◌, List, [], ◌∷◌, length, reverse, Vec, vec_len, vec_capacity, Option, None, Some}
-use Rattle.std.specs.List.{All}
+use Rattle.std.specs.Prelude.{ℕ, ◌≡◌, ◌+◌, ◌-◌, ◌<◌, ◌≤◌, List, [], ◌∷◌, length, reverse, Vec, vec_capacity, Option, None, Some}
 use Rattle.std.specs.Global.{Global}
 use Rattle.tqd_base.specs.declared.limits.TheConstants.{SUPPLIERS_MAX}
 use Rattle.tqd_base.specs.Sum.{sum_to}

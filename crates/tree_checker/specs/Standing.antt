@@ -1,6 +1,5 @@
 -- The standing of a purchase as a value: the first test of feasibility that it fails, or its cost.
 use Rattle.std.specs.Prelude.{ℕ, suc, zero, Bool, ◌||◌, nat_lt, if◌then◌else◌, Option, None, Some, is_some, not}
-use Rattle.std.specs.Option.{option_map}
 use Rattle.tqd_instance.specs.declared.job.Job.{Job}
 use Rattle.tqd_instance.specs.declared.standing.Standing.{Standing}
 use Rattle.tqd_instance.specs.declared.standing.Standing.TheVariants.{Feasible, Need, Stock, Gap, Winners}

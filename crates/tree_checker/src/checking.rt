@@ -57,8 +57,8 @@ pub fn check(alloc: Global, job: &Job, bytes: &[u8]) -> Result<Verdict, Memory>
     Ok(run.finish())
 }
 
-/// The verdict of the text that a reading slot has left. It keeps no more than one line, the prices of one row, the plan
-/// and the boxes that are due, and takes memory for these alone, at the beginning.
+/// The verdict of the text that a reading slot has left. It keeps no more than one line, the prices of one row, 64 rows in
+/// slots, the plan and the boxes that are due, and takes memory for these alone, at the beginning.
 ///
 /// It takes until the text is rejected or nothing is left, and stops with Size as soon as more than 2^62 bytes were taken.
 /// Each turn takes at least one byte, so it always returns.

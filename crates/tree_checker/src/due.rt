@@ -1,13 +1,7 @@
-ghost use Rattle.std.specs.Prelude.{◌≡◌, ◌<◌, ◌^◌, List, Err, IfSome};
-ghost use Rattle.tqd_instance.specs.declared.job.Job.{Job};
-ghost use Rattle.tqd_instance.specs.declared.plan.Plan.{Plan};
-ghost use Rattle.interval_box.specs.declared.boxes.IntervalBox.{IntervalBox};
-ghost use Rattle.tree_checker.specs.Verdict.{nothing_bought};
-ghost use Rattle.tree_checker.specs.ByHead.{header_by_head};
-ghost use Rattle.tree_checker.specs.Judged.{HasUnits, IsNextPlace, IsSplitPlace, Leads, verdict_by};
+ghost use Rattle.std.specs.Prelude.{◌≡◌, ◌<◌, ◌^◌, Err, IfSome};
+ghost use Rattle.tree_checker.specs.Judged.{IsNextPlace, IsSplitPlace, verdict_by};
 
 use crate::rejection::{Rejection, Verdict, Why};
-use bound_tree::LineHead;
 use interval_box::IntervalBox;
 use tqd_base::limits::QTY_MAX;
 use tqd_instance::Job;
@@ -30,16 +24,6 @@ pub(crate) fn rejected(line: u64, why: Why) -> Result<Due, Rejection>
     ensures { result ≡ Err (record { line = line; why = why }) }
 {
     Err(Rejection { line, why })
-}
-
-pub(crate) fn after_header(line: u64, head: Option<LineHead>) -> Result<Due, Rejection>
-    ensures { (job : Job) (plan : Plan) (boxes : List IntervalBox) → HasUnits job plan nothing_bought
-        → Leads job plan boxes result (header_by_head line head) }
-{
-    match head {
-        Some(LineHead::Header) => Ok(Due::Plan),
-        _ => rejected(line, Why::Header),
-    }
 }
 
 /// The place of a `buy` line in the order of suppliers and goods, where its numbers are in range and it is not before

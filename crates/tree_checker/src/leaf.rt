@@ -2,7 +2,7 @@ ghost use Rattle.std.specs.Prelude.{◌≡◌, ◌≤◌, ◌≤ℤ◌, ◌<ℤ�
 ghost use Rattle.interval_box.specs.Ranges.{IsBoxOf};
 ghost use Rattle.bound_tree.specs.LineHead.{head_of, prices_of, IsRowOf};
 ghost use Rattle.bound_tree.specs.Prices.{AreFitting};
-ghost use Rattle.tree_checker.specs.Verdict.{prices_wanted, row_fault, bound_fault, empty_fault, winners_fault};
+ghost use Rattle.tree_checker.specs.Verdict.{prices_wanted, row_fault, bound_fault, empty_fault, winners_fault, short_fault, free_fault};
 ghost use Rattle.tree_checker.specs.ByHead.{leaf_by_head};
 ghost use Rattle.tree_checker.specs.Judged.{ReadsRow};
 
@@ -15,7 +15,7 @@ use tqd_instance::Job;
 pub(crate) const PRICES_MAX: usize = 2_024;
 
 /// How many prices a row of the box has.
-fn prices_wanted(job: &Job, area: &IntervalBox) -> usize
+pub(crate) fn prices_wanted(job: &Job, area: &IntervalBox) -> usize
     requires { IsBoxOf job.now area.now }
     ensures value { result ≡ prices_wanted job.now area.now }
     ensures few { result ≤ 2024 }
@@ -91,7 +91,16 @@ fn bound_fault(
     let Some(cost) = best else {
         return Some(Why::BoundWithoutPlan);
     };
-    let value = value_in(job, area, &places[..prices_wanted(job, area)]);
+    short_fault(
+        value_in(job, area, &places[..prices_wanted(job, area)]),
+        cost,
+    )
+}
+
+/// Why a value does not reach the cost of the plan, where it does not.
+pub(crate) fn short_fault(value: i128, cost: u128) -> Option<Why>
+    ensures { result ≡ short_fault (Some cost) value }
+{
     if reaches(value, cost) {
         None
     } else {
@@ -115,7 +124,13 @@ fn empty_fault(
     if let Some(why) = read_row(job, area, line, found, places) {
         return Some(why);
     }
-    let value = value_free_in(job, area, &places[..prices_wanted(job, area)]);
+    free_fault(value_free_in(job, area, &places[..prices_wanted(job, area)]))
+}
+
+/// Why a free value does not show that no purchase is feasible, where it does not.
+pub(crate) fn free_fault(value: i128) -> Option<Why>
+    ensures { result ≡ free_fault value }
+{
     if 0 < value {
         None
     } else {
@@ -124,7 +139,7 @@ fn empty_fault(
 }
 
 /// Why a `winners` line is no leaf that kills the box, where it is not.
-fn winners_fault(job: &Job, area: &IntervalBox) -> Option<Why>
+pub(crate) fn winners_fault(job: &Job, area: &IntervalBox) -> Option<Why>
     requires { IsBoxOf job.now area.now }
     ensures { result ≡ winners_fault job.now area.now }
 {

@@ -2,6 +2,8 @@
 //!
 //! `specs/Verdict` says what a text shows: it is read line by line, each line has its cases, and the first cause ends
 //! the reading. `Optimal(c)` and `NoPurchase` come where a whole tree of boxes was read, each leaf of which kills its box.
+//! In format 1 a leaf has its row in its line. In format 2 lines give rows to 64 slots, and a leaf names the slot of its
+//! row, which is narrowed to its box.
 //!
 //! A `CheckRun` reads the text in pieces. What it keeps is what the bytes fed lead to (`specs/Run`), so that `feed` and
 //! `finish` answer exactly by the verdict of those bytes, however they were cut. After `start` nothing takes memory.
@@ -17,6 +19,8 @@ pub mod laws;
 mod leaf;
 mod rejection;
 mod run;
+mod slot_leaf;
+mod slots;
 mod stack;
 
 pub use checking::{CheckStop, check, check_from};

@@ -15,6 +15,8 @@ pub enum Why {
     Line,
     /// The split is not proper for its box.
     SplitRange,
+    /// The slot is none of the 64, or a leaf names it and it has no row yet.
+    RowSlot { slot: u128 },
     /// The row has so many prices, and its box calls for so many.
     RowLength { found: u64, wanted: u64 },
     /// A price of the row is beyond 4 * 10^15 millionths of the currency in absolute value.

@@ -8,8 +8,8 @@ use std::alloc::Global;
 use tqd_base::Memory;
 use tqd_instance::Job;
 
-/// Checks a text of a tree that comes in pieces. It keeps the line that is not ended yet, the plan, the prices of one row
-/// and the boxes that are due.
+/// Checks a text of a tree, of either format, that comes in pieces. It keeps the line that is not ended yet, the plan, the
+/// prices of one row, the rows in 64 slots and the boxes that are due.
 #[derive(Debug, Drop)]
 pub struct CheckRun<'j> {
     taken: u64,
@@ -27,8 +27,8 @@ impl<'j> CheckRun<'j> {
     ghost use Rattle.tree_checker.specs.Verdict.{Phase, Progress, reading, is_whole, line_ended, after_line, after_bytes, verdict};
     ghost use Rattle.tree_checker.specs.Run.{job_of, taken_by, IsAt, Stands, AnswersPiece};
 
-    /// A run that was fed nothing. It reserves a line of 65,536 bytes, 2,024 prices, 1,025 boxes and a plan; no other
-    /// call here takes memory.
+    /// A run that was fed nothing. It reserves a line of 65,536 bytes, 2,024 prices, 1,025 boxes, a plan and 64 rows of the
+    /// root, which are at most 1,036,288 bytes; no other call here takes memory.
     #[tactic(auto, unfolding(crate::specs::Run::job_of, crate::specs::Run::taken_by, crate::specs::Run::Stands))]
     pub fn start(alloc: Global, job: &'j Job) -> Result<CheckRun<'j>, Memory>
         ensures job { IfOk result (λ run. job_of run ≡ job.now) }

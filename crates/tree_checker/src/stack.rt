@@ -31,7 +31,7 @@ impl BoxStack {
     ghost use Rattle.interval_box.specs.Ranges.{IsBoxOf};
     ghost use Rattle.interval_box.specs.Halves.{low_half, high_half};
     ghost use Rattle.tree_checker.specs.Stack.{without_first, IsFirst, IsSplitFirst};
-    ghost use Rattle.tree_checker.specs.Root.{root_of};
+    ghost use Rattle.bound_tree.specs.Root.{root_of};
 
     /// No box, and room for all that can be due at once; nothing else here takes memory.
     pub fn start(alloc: Global) -> Result<BoxStack, Memory>

@@ -16,6 +16,10 @@ mod parts;
 #[cfg(test)]
 mod rows;
 #[cfg(test)]
+mod shares;
+#[cfg(test)]
+mod slots;
+#[cfg(test)]
 mod splits;
 #[cfg(test)]
 mod texts;

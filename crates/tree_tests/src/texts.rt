@@ -18,10 +18,11 @@ use tqd_base::{Desk, DeskCall, Memory, MemoryDesk};
 use tqd_instance::{Job, Plan, Standing};
 
 /// Lines, and what each says, if it is a line of a tree.
-const HEADS: [(&str, Option<LineHead>); 32] = [
+const HEADS: [(&str, Option<LineHead>); 38] = [
     ("tqd-tree 1", Some(LineHead::Header)),
     ("tqd-tree 01", None),
-    ("tqd-tree 2", None),
+    ("tqd-tree 2", Some(LineHead::Header2)),
+    ("tqd-tree 3", None),
     ("tqd-tree", None),
     ("none", Some(LineHead::NoPlan)),
     ("none ", None),
@@ -64,6 +65,11 @@ const HEADS: [(&str, Option<LineHead>); 32] = [
         }),
     ),
     ("empty 7", Some(LineHead::Empty { count: 1 })),
+    ("row 63 0 5 -5", Some(LineHead::Row { slot: 63, count: 3 })),
+    ("row 0", Some(LineHead::Row { slot: 0, count: 0 })),
+    ("row", None),
+    ("row -1 5", None),
+    ("row 00 5", None),
 ];
 
 #[test]
@@ -158,10 +164,12 @@ fn prices_are_read_up_to_their_limit(rt: HostRuntime) {
 fn next_of(alloc: Global, reader: &mut TreeReader<'_>) -> Result<&'static str, Memory> {
     Ok(match reader.next_line(alloc)? {
         LineGot::Line(TreeLine::Header) => "header",
+        LineGot::Line(TreeLine::Header2) => "second header",
         LineGot::Line(TreeLine::NoPlan) => "none",
         LineGot::Line(TreeLine::Plan { .. }) => "plan",
         LineGot::Line(TreeLine::Buy { .. }) => "buy",
         LineGot::Line(TreeLine::Split { .. }) => "split",
+        LineGot::Line(TreeLine::Row { .. }) => "row",
         LineGot::Line(TreeLine::Bound(_)) => "bound",
         LineGot::Line(TreeLine::Empty(_)) => "empty",
         LineGot::Line(TreeLine::Winners) => "winners",
@@ -268,7 +276,7 @@ fn is_written(
 }
 
 /// A plan that buys 100 units of the first good from the first supplier.
-fn hundred(rt: &impl Abort, alloc: Global, job: &Job) -> Result<Plan, Memory>
+pub(crate) fn hundred(rt: &impl Abort, alloc: Global, job: &Job) -> Result<Plan, Memory>
     ensures { IfOk result (λ plan. IsSizedFor job.now plan) }
 {
     let mut plan = Plan::zero(alloc, job.suppliers(), job.goods())?;

@@ -1,6 +1,6 @@
 //! The verdicts of texts of trees.
 
-use crate::jobs::job_of;
+use crate::jobs::{built, job_of, two_suppliers};
 use std::alloc::Global;
 use std::process::Abort;
 use std::test::Fail;
@@ -14,7 +14,7 @@ fn one_supplier(rt: &impl Abort, alloc: Global) -> Result<Job, Stop<JobFault>> {
 }
 
 /// The bytes of a text in which a slash stands for a line feed.
-fn lines(alloc: Global, text: &str) -> Result<Vec<u8>, Memory> {
+pub(crate) fn lines(alloc: Global, text: &str) -> Result<Vec<u8>, Memory> {
     let mut bytes = Vec::new(alloc);
     for byte in text.as_bytes() {
         bytes.push(if *byte == b'/' { b'\n' } else { *byte })?;
@@ -48,18 +48,21 @@ fn both_ways(rt: &impl Abort, alloc: Global, job: &Job, bytes: &[u8]) -> Result<
 
 /// The verdict of a text, which does not hang on how it is cut.
 fn verdict(rt: &impl Abort, alloc: Global, text: &str) -> Result<Verdict, Stop<JobFault>> {
-    let job = one_supplier(rt, alloc)?;
     let bytes = lines(alloc, text)?;
-    Ok(both_ways(rt, alloc, &job, &bytes)?)
+    verdict_of(rt, alloc, &bytes)
 }
 
-/// The verdict of bytes.
-fn verdict_of(rt: &impl Abort, alloc: Global, bytes: &[u8]) -> Result<Verdict, Stop<JobFault>> {
+/// The verdict of bytes, which does not hang on how they are cut.
+pub(crate) fn verdict_of(
+    rt: &impl Abort,
+    alloc: Global,
+    bytes: &[u8],
+) -> Result<Verdict, Stop<JobFault>> {
     let job = one_supplier(rt, alloc)?;
-    Ok(check(alloc, &job, bytes)?)
+    Ok(both_ways(rt, alloc, &job, bytes)?)
 }
 
-fn rejected(line: u64, why: Why) -> Verdict {
+pub(crate) fn rejected(line: u64, why: Why) -> Verdict {
     Verdict::Rejected(Rejection { line, why })
 }
 
@@ -83,7 +86,8 @@ fn trees_are_accepted(rt: HostRuntime) -> Result<(), Fail> {
 fn a_tree_shows_that_no_purchase_is_feasible(rt: HostRuntime) -> Result<(), Fail> {
     let job = job_of(&rt, rt.alloc(), 100, 50)?;
     let bytes = lines(rt.alloc(), "tqd-tree 1/none/empty 1 0 0/")?;
-    assert_eq!(rt; check(rt.alloc(), &job, &bytes)?, Verdict::NoPurchase);
+    let found = both_ways(&rt, rt.alloc(), &job, &bytes)?;
+    assert_eq!(rt; found, Verdict::NoPurchase);
     Ok(())
 }
 
@@ -95,8 +99,11 @@ fn plans_are_judged(rt: HostRuntime) -> Result<(), Fail> {
         real: 8_000_000,
     };
     for (text, want) in [
-        ("tqd-tree 2/", rejected(1, Why::Header)),
+        ("tqd-tree 3/", rejected(1, Why::Header)),
+        ("none/", rejected(1, Why::Header)),
         ("tqd-tree 1/plan 8000000 2/", rejected(2, Why::PlanForm)),
+        ("tqd-tree 2/plan 8000000 2/", rejected(2, Why::PlanForm)),
+        ("tqd-tree 2/tqd-tree 2/", rejected(2, Why::PlanForm)),
         (
             "tqd-tree 1/plan 8000000 1/buy 1 0 100/",
             rejected(3, Why::PlanForm),
@@ -105,10 +112,44 @@ fn plans_are_judged(rt: HostRuntime) -> Result<(), Fail> {
             "tqd-tree 1/plan 8000000 1/buy 0 0 0/",
             rejected(3, Why::PlanForm),
         ),
+        (
+            "tqd-tree 1/plan 8000000 1/buy 0  0 100/",
+            rejected(3, Why::PlanForm),
+        ),
+        (
+            "tqd-tree 1/plan 8000000 1/buy 0 0 0100/",
+            rejected(3, Why::PlanForm),
+        ),
         ("tqd-tree 1/plan 8000000 1/buy 0 0 99/", rejected(2, need)),
+        ("tqd-tree 2/plan 8000000 1/buy 0 0 99/", rejected(2, need)),
         ("tqd-tree 1/plan 7999999 1/buy 0 0 100/", rejected(2, cost)),
     ] {
         assert_eq!(rt; verdict(&rt, rt.alloc(), text)?, want, "in {text}");
+    }
+    Ok(())
+}
+
+#[test]
+fn what_is_bought_stands_in_rising_order(rt: HostRuntime) -> Result<(), Fail> {
+    let parts = two_suppliers(rt.alloc(), 0)?;
+    let job = built(&rt, rt.alloc(), &parts)?;
+    for (text, want) in [
+        (
+            "tqd-tree 1/plan 165000000 2/buy 0 0 100/buy 0 1 50/bound 900000 1500000 0 0 0/",
+            Verdict::Optimal(165_000_000),
+        ),
+        (
+            "tqd-tree 1/plan 165000000 2/buy 0 1 50/buy 0 0 100/",
+            rejected(4, Why::PlanForm),
+        ),
+        (
+            "tqd-tree 1/plan 165000000 2/buy 0 0 100/buy 0 0 100/",
+            rejected(4, Why::PlanForm),
+        ),
+    ] {
+        let bytes = lines(rt.alloc(), text)?;
+        let found = both_ways(&rt, rt.alloc(), &job, &bytes)?;
+        assert_eq!(rt; found, want, "in {text}");
     }
     Ok(())
 }
@@ -162,6 +203,9 @@ fn nodes_are_judged(rt: HostRuntime) -> Result<(), Fail> {
         ("empty 0 0 0", 0, Why::EmptyFails(0)),
         ("winners", 0, Why::WinnersFit),
         ("none", 0, Why::Line),
+        ("row 0 80000 0 0", 0, Why::Line),
+        ("bound  80000 0 0", 0, Why::Line),
+        ("bound 080000 0 0", 0, Why::Line),
         // the longest line, and one that is too long
         ("bound", 32_765, many),
         ("bound", 32_766, Why::Line),
@@ -249,7 +293,7 @@ fn a_desk_is_read_to_its_verdict(rt: HostRuntime) -> Result<(), Fail> {
         (TREE, 1_000, Ok(Verdict::Optimal(8_000_000))),
         (TREE, 3, Err(CheckStop::Fault)),
         // the first line rejects the text, so that the fault behind it is not met
-        ("tqd-tree 2/rest", 12, Ok(rejected(1, Why::Header))),
+        ("tqd-tree 3/rest", 12, Ok(rejected(1, Why::Header))),
     ] {
         let found = from_desk(&rt, rt.alloc(), text, fails)?;
         assert_eq!(rt; found, want, "where {fails} fails");

@@ -17,7 +17,7 @@ use Rattle.bound_tree.specs.ReadLine.{read_line}
 use Rattle.bound_tree.specs.TreeText.{lines_to, ended, lines_text}
 use Rattle.bound_tree.proofs.TreeLines.{lines_append, lines_to-zero, lines_to-suc, lines_none, one_piece}
 use Rattle.bound_tree.proofs.LineLaws.{counts_are_read}
-use Rattle.tree_checker.specs.Verdict.{PlanSoFar, Step, at_buys, place, nothing_bought, with_units, with_buy, is_next, when_bought, line_ended, after_line, after_bytes}
+use Rattle.tree_checker.specs.Verdict.{RowStore, PlanSoFar, Step, at_buys, place, nothing_bought, with_units, with_buy, is_next, when_bought, line_ended, after_line, after_bytes}
 use Rattle.verdict_laws.proofs.OneLine.{line_step}
 use Rattle.verdict_laws.proofs.TreeReads.{two_spelled}
 use Rattle.verdict_laws.proofs.CostsBelow.{units_within}
@@ -95,27 +95,27 @@ buy_is_read job i k n supplier good within =
     let third : n < 10 ^ 23 = omega arith in
     counts_are_read (Buy i k n) (All-cons (λ (z : ℤ). unsigned_abs z < 10 ^ 23) (pos i) (pos k ∷ pos n ∷ []) first (two_spelled k n second third)) refl
 
-buy_goes : (job : Job) (line : ℕ) (plan : PlanSoFar) (i k n : ℕ) → is_next job plan.next i k n ≡ true → after_line job line (at_buys plan) (Some (Buy i k n)) ≡ when_bought job (with_buy job plan i k n)
+buy_goes : (job : Job) (line : ℕ) (store : RowStore) (plan : PlanSoFar) (i k n : ℕ) → is_next job plan.next i k n ≡ true → after_line job line (at_buys store plan) (Some (Buy i k n)) ≡ when_bought job store (with_buy job plan i k n)
 unfolding after_line
-buy_goes job line plan i k n is = rw is refl
+buy_goes job line store plan i k n is = rw is refl
 
-buys_due : (job : Job) (plan : PlanSoFar) → 1 ≤ plan.left → when_bought job plan ≡ Ok (at_buys plan)
-buys_due job plan some = let is : (plan.left == 0) ≡ false = ne_eqb plan.left 0 (λ e. omega arith) in rw is refl
+buys_due : (job : Job) (store : RowStore) (plan : PlanSoFar) → 1 ≤ plan.left → when_bought job store plan ≡ Ok (at_buys store plan)
+buys_due job store plan some = let is : (plan.left == 0) ≡ false = ne_eqb plan.left 0 (λ e. omega arith) in rw is refl
 
 -- the lines of the first p places are read
-pub record BuysRead (job : Job) (x : Purchase) (cost count n p : ℕ) (after : Bytes) : Type 0 where
+pub record BuysRead (job : Job) (store : RowStore) (x : Purchase) (cost count n p : ℕ) (after : Bytes) : Type 0 where
   pub plan : PlanSoFar
   pub passed : Passed job x cost count p plan
-  pub read : after_bytes job (line_ended n (when_bought job (first_plan cost count))) (lines_text (lines_to p (line_at job x)) ++ after)
-      ≡ after_bytes job (line_ended (n + length (lines_to p (line_at job x))) (when_bought job plan)) after
+  pub read : after_bytes job (line_ended n (when_bought job store (first_plan cost count))) (lines_text (lines_to p (line_at job x)) ++ after)
+      ≡ after_bytes job (line_ended (n + length (lines_to p (line_at job x))) (when_bought job store plan)) after
 
 -- the line of one place is read
-one_read : (job : Job) (plan : PlanSoFar) (m i k n : ℕ) (after : Bytes) → 1 ≤ plan.left → i < suppliers job → k < goods job → 1 ≤ n → n ≤ QTY_MAX → plan.next ≤ place job i k
-    → after_bytes job (line_ended m (when_bought job plan)) (ended (Buy i k n) ++ after) ≡ after_bytes job (line_ended (m + 1) (when_bought job (with_buy job plan i k n))) after
-one_read job plan m i k n after due supplier good some within order =
-    ap (λ (s : Step). after_bytes job (line_ended m s) (ended (Buy i k n) ++ after)) (buys_due job plan due)
-    ∙ (line_step job m (at_buys plan) (Buy i k n) after refl (buy_is_read job i k n supplier good within)
-    ∙ ap (λ (s : Step). after_bytes job (line_ended (m + 1) s) after) (buy_goes job (m + 1) plan i k n (next_fits job plan.next i k n supplier good some within order)))
+one_read : (job : Job) (store : RowStore) (plan : PlanSoFar) (m i k n : ℕ) (after : Bytes) → 1 ≤ plan.left → i < suppliers job → k < goods job → 1 ≤ n → n ≤ QTY_MAX → plan.next ≤ place job i k
+    → after_bytes job (line_ended m (when_bought job store plan)) (ended (Buy i k n) ++ after) ≡ after_bytes job (line_ended (m + 1) (when_bought job store (with_buy job plan i k n))) after
+one_read job store plan m i k n after due supplier good some within order =
+    ap (λ (s : Step). after_bytes job (line_ended m s) (ended (Buy i k n) ++ after)) (buys_due job store plan due)
+    ∙ (line_step job m (at_buys store plan) (Buy i k n) after refl (buy_is_read job i k n supplier good within)
+    ∙ ap (λ (s : Step). after_bytes job (line_ended (m + 1) s) after) (buy_goes job (m + 1) store plan i k n (next_fits job plan.next i k n supplier good some within order)))
 
 text_more : (job : Job) (x : Purchase) (p : ℕ) (after : Bytes) → lines_text (lines_to (suc p) (line_at job x)) ++ after ≡ lines_text (lines_to p (line_at job x)) ++ (lines_text (line_at job x p) ++ after)
 text_more job x p after =
@@ -126,23 +126,23 @@ text_more job x p after =
 lines_within : (job : Job) (x : Purchase) (p r : ℕ) → length (lines_to p (line_at job x)) ≤ length (lines_to (p + r) (line_at job x))
 lines_within job x p r = omega (arith, ap length (to_sum p r (line_at job x)) ∙ length-append (lines_to p (line_at job x)) (lines_to r (λ k. line_at job x (p + k))))
 
-read_empty : (job : Job) (x : Purchase) (cost count n p : ℕ) (after : Bytes) → x (p / goods job) (p % goods job) ≡ 0
-    → BuysRead job x cost count n p (lines_text (line_at job x p) ++ after) → BuysRead job x cost count n (suc p) after
-read_empty job x cost count n p after none before =
+read_empty : (job : Job) (store : RowStore) (x : Purchase) (cost count n p : ℕ) (after : Bytes) → x (p / goods job) (p % goods job) ≡ 0
+    → BuysRead job store x cost count n p (lines_text (line_at job x p) ++ after) → BuysRead job store x cost count n (suc p) after
+read_empty job store x cost count n p after none before =
     let empty = no_units (p / goods job) (p % goods job) (x (p / goods job) (p % goods job)) none in
     let lines : lines_to (suc p) (line_at job x) ≡ lines_to p (line_at job x) = lines_to-suc p (line_at job x) ∙ (ap (λ (ls : List TreeLine). lines_to p (line_at job x) ++ ls) empty ∙ append-nil (lines_to p (line_at job x))) in
     let nothing : lines_text (line_at job x p) ≡ [] = ap lines_text empty ∙ lines_none in
     record {
       plan = before.plan;
       passed = passed_empty job x cost count p before.plan none lines before.passed;
-      read = ap (λ (t : Bytes). after_bytes job (line_ended n (when_bought job (first_plan cost count))) t) (text_more job x p after)
-          ∙ (before.read ∙ (ap (λ (t : Bytes). after_bytes job (line_ended (n + length (lines_to p (line_at job x))) (when_bought job before.plan)) (t ++ after)) nothing
-          ∙ ap (λ (ls : List TreeLine). after_bytes job (line_ended (n + length ls) (when_bought job before.plan)) after) (sym lines)));
+      read = ap (λ (t : Bytes). after_bytes job (line_ended n (when_bought job store (first_plan cost count))) t) (text_more job x p after)
+          ∙ (before.read ∙ (ap (λ (t : Bytes). after_bytes job (line_ended (n + length (lines_to p (line_at job x))) (when_bought job store before.plan)) (t ++ after)) nothing
+          ∙ ap (λ (ls : List TreeLine). after_bytes job (line_ended (n + length ls) (when_bought job store before.plan)) after) (sym lines)));
     }
 
-read_some : (job : Job) (x : Purchase) (cost count n p : ℕ) (after : Bytes) → Feasible job x → HasPlace (suppliers job) (goods job) p → length (lines_to (suc p) (line_at job x)) ≤ count
-    → 1 ≤ x (p / goods job) (p % goods job) → BuysRead job x cost count n p (lines_text (line_at job x p) ++ after) → BuysRead job x cost count n (suc p) after
-read_some job x cost count n p after f at within some before =
+read_some : (job : Job) (store : RowStore) (x : Purchase) (cost count n p : ℕ) (after : Bytes) → Feasible job x → HasPlace (suppliers job) (goods job) p → length (lines_to (suc p) (line_at job x)) ≤ count
+    → 1 ≤ x (p / goods job) (p % goods job) → BuysRead job store x cost count n p (lines_text (line_at job x p) ++ after) → BuysRead job store x cost count n (suc p) after
+read_some job store x cost count n p after f at within some before =
     let i = p / goods job in
     let k = p % goods job in
     let line = some_units i k (x i k) some in
@@ -154,29 +154,29 @@ read_some job x cost count n p after f at within some before =
     record {
       plan = with_buy job before.plan i k (x i k);
       passed = passed_more job x cost count p before.plan at more within before.passed;
-      read = ap (λ (t : Bytes). after_bytes job (line_ended n (when_bought job (first_plan cost count))) t) (text_more job x p after)
-          ∙ (before.read ∙ (ap (λ (t : Bytes). after_bytes job (line_ended m (when_bought job before.plan)) (t ++ after)) text
-          ∙ (one_read job before.plan m i k (x i k) after (omega (arith, before.passed.left_is, more)) at.supplier at.good some (units_within job x i k f at.supplier at.good) (omega (arith, before.passed.next_is, at.place))
-          ∙ ap (λ (r : ℕ). after_bytes job (line_ended r (when_bought job (with_buy job before.plan i k (x i k)))) after) count_is)));
+      read = ap (λ (t : Bytes). after_bytes job (line_ended n (when_bought job store (first_plan cost count))) t) (text_more job x p after)
+          ∙ (before.read ∙ (ap (λ (t : Bytes). after_bytes job (line_ended m (when_bought job store before.plan)) (t ++ after)) text
+          ∙ (one_read job store before.plan m i k (x i k) after (omega (arith, before.passed.left_is, more)) at.supplier at.good some (units_within job x i k f at.supplier at.good) (omega (arith, before.passed.next_is, at.place))
+          ∙ ap (λ (r : ℕ). after_bytes job (line_ended r (when_bought job store (with_buy job before.plan i k (x i k)))) after) count_is)));
     }
 
-pub buys_read : (job : Job) (x : Purchase) (cost count n : ℕ) → Feasible job x → length (lines_to (suppliers job * goods job) (line_at job x)) ≤ count
-    → (p : ℕ) → p ≤ suppliers job * goods job → (after : Bytes) → BuysRead job x cost count n p after
-buys_read job x cost count n f all zero within after = record {
+pub buys_read : (job : Job) (store : RowStore) (x : Purchase) (cost count n : ℕ) → Feasible job x → length (lines_to (suppliers job * goods job) (line_at job x)) ≤ count
+    → (p : ℕ) → p ≤ suppliers job * goods job → (after : Bytes) → BuysRead job store x cost count n p after
+buys_read job store x cost count n f all zero within after = record {
   plan = first_plan cost count;
   passed = passed_none job x cost count;
   read = let none = lines_to-zero (line_at job x) in
       let zero_is : n + length (lines_to 0 (line_at job x)) ≡ n = omega (arith, ap length none) in
-      ap (λ (t : Bytes). after_bytes job (line_ended n (when_bought job (first_plan cost count))) (t ++ after)) (ap lines_text none ∙ lines_none)
-      ∙ ap (λ (r : ℕ). after_bytes job (line_ended r (when_bought job (first_plan cost count))) after) (sym zero_is);
+      ap (λ (t : Bytes). after_bytes job (line_ended n (when_bought job store (first_plan cost count))) (t ++ after)) (ap lines_text none ∙ lines_none)
+      ∙ ap (λ (r : ℕ). after_bytes job (line_ended r (when_bought job store (first_plan cost count))) after) (sym zero_is);
 }
-buys_read job x cost count n f all (suc p) within after =
-    let before = buys_read job x cost count n f all p (omega arith) (lines_text (line_at job x p) ++ after) in
+buys_read job store x cost count n f all (suc p) within after =
+    let before = buys_read job store x cost count n f all p (omega arith) (lines_text (line_at job x p) ++ after) in
     let left = suppliers job * goods job - suc p in
     let joined : suc p + left ≡ suppliers job * goods job = omega arith in
     let fewer = lines_within job x (suc p) left in
     let most : length (lines_to (suc p) (line_at job x)) ≤ count = omega (arith, fewer, ap (λ (r : ℕ). length (lines_to r (line_at job x))) joined, all) in
     elim (cases_lt (x (p / goods job) (p % goods job)) 1) [
-      | inl none ↦ read_empty job x cost count n p after (omega arith) before
-      | inr some ↦ read_some job x cost count n p after f (has_place (suppliers job) (goods job) p within) most some before
+      | inl none ↦ read_empty job store x cost count n p after (omega arith) before
+      | inr some ↦ read_some job store x cost count n p after f (has_place (suppliers job) (goods job) p within) most some before
     ]

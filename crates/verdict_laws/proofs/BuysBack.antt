@@ -13,15 +13,15 @@ use Rattle.tqd_instance.specs.Job.{goods, suppliers}
 use Rattle.tqd_instance.specs.Purchase.{Purchase}
 use Rattle.tqd_instance.specs.Standing.{Costs}
 use Rattle.bound_tree.specs.declared.line.TreeLine.{TreeLine}
-use Rattle.bound_tree.specs.declared.line.TreeLine.TheVariants.{Header, NoPlan, Plan, Buy, Split, Bound, Empty, Winners}
+use Rattle.bound_tree.specs.declared.line.TreeLine.TheVariants.{Header, Header2, NoPlan, Plan, Buy, Split, Row, Bound, Empty, Winners}
 use Rattle.bound_tree.specs.TreeText.{lines_to, units_line, buy_lines, ended, lines_text}
 use Rattle.bound_tree.proofs.TreeLines.{lines_to-zero, lines_to-more, lines_none, lines_first}
 use Rattle.tree_checker.specs.Standing.{standing_of}
-use Rattle.tree_checker.specs.Root.{root_of}
-use Rattle.tree_checker.specs.Verdict.{PlanSoFar, Phase, at_plan, at_buys, at_nodes, reading, judged, when_bought, place, with_units, with_buy, is_next, after_line}
+use Rattle.bound_tree.specs.Root.{root_of}
+use Rattle.tree_checker.specs.Verdict.{RowStore, PlanSoFar, Phase, at_plan, at_buys, at_nodes, reading, judged, when_bought, place, with_units, with_buy, is_next, after_line}
 use Rattle.verdict_laws.proofs.Ends.{IsWholeAt}
 use Rattle.verdict_laws.proofs.NextLines.{next_line}
-use Rattle.verdict_laws.proofs.Feasibles.{feasible_from}
+use Rattle.verdict_laws.proofs.StandsAs.{feasible_from}
 use Rattle.verdict_laws.proofs.Places.{line_at, buys_in_a_row, to_same, to_far, no_units, some_units}
 use Rattle.verdict_laws.proofs.BuyReads.{first_plan, with_other, with_same}
 
@@ -76,7 +76,7 @@ built_all job plan lines built =
     (λ q from below. no_units (q / goods job) (q % goods job) (plan.bought (q / goods job) (q % goods job)) (built.later q from))) ∙ sym (buys_in_a_row job plan.bought))
 
 -- what is bought, by the lines that are left of it, and what comes after them
-pub record AreBuys (job : Job) (said left : ℕ) (before : List TreeLine) (text : Bytes) (best : Option ℕ) : Type 0 where
+pub record AreBuys (job : Job) (store : RowStore) (said left : ℕ) (before : List TreeLine) (text : Bytes) (best : Option ℕ) : Type 0 where
   pub x : Purchase
   pub more : List TreeLine
   pub rest : Bytes
@@ -85,36 +85,36 @@ pub record AreBuys (job : Job) (said left : ℕ) (before : List TreeLine) (text 
   pub count : length more ≡ left
   pub costs : Costs job x said
   pub lines : ℕ
-  pub whole : IsWholeAt job (reading lines [] (at_nodes (Some said) (root_of job ∷ []))) rest best
+  pub whole : IsWholeAt job (reading lines [] (at_nodes store (Some said) (root_of job ∷ []))) rest best
 
-right_cost : (job : Job) (said real : ℕ) (b : Bool) (next : Phase) → (said == real) ≡ b → judged job said (IsFeasible real) ≡ Ok next → (said ≡ real) × (next ≡ at_nodes (Some said) (root_of job ∷ []))
-right_cost job said real true next is e =
+right_cost : (job : Job) (store : RowStore) (said real : ℕ) (b : Bool) (next : Phase) → (said == real) ≡ b → judged job store said (IsFeasible real) ≡ Ok next → (said ≡ real) × (next ≡ at_nodes store (Some said) (root_of job ∷ []))
+right_cost job store said real true next is e =
     let led = rw is at e in
-    let same : at_nodes (Some said) (root_of job ∷ []) ≡ next = cc in
+    let same : at_nodes store (Some said) (root_of job ∷ []) ≡ next = cc in
     (eqb-true said real is, sym same)
-right_cost job said real false next is e = let led = rw is at e in absurd (cc)
+right_cost job store said real false next is e = let led = rw is at e in absurd (cc)
 
-judged_well : (job : Job) (x : Purchase) (said : ℕ) (s : Standing) (next : Phase) → standing_of job x ≡ s → judged job said s ≡ Ok next → Costs job x said × (next ≡ at_nodes (Some said) (root_of job ∷ []))
-judged_well job x said (IsFeasible real) next is e =
-    let right = right_cost job said real (said == real) next refl e in
+judged_well : (job : Job) (store : RowStore) (x : Purchase) (said : ℕ) (s : Standing) (next : Phase) → standing_of job x ≡ s → judged job store said s ≡ Ok next → Costs job x said × (next ≡ at_nodes store (Some said) (root_of job ∷ []))
+judged_well job store x said (IsFeasible real) next is e =
+    let right = right_cost job store said real (said == real) next refl e in
     (feasible_from job x said (is ∙ ap IsFeasible (sym right.0)), right.1)
-judged_well job x said (Need good sum) next is e = absurd (cc)
-judged_well job x said (Stock i k) next is e = absurd (cc)
-judged_well job x said (Gap i units) next is e = absurd (cc)
-judged_well job x said (WinnersStanding number) next is e = absurd (cc)
+judged_well job store x said (Need good sum) next is e = absurd (cc)
+judged_well job store x said (Stock i k) next is e = absurd (cc)
+judged_well job store x said (Gap i units) next is e = absurd (cc)
+judged_well job store x said (WinnersStanding number) next is e = absurd (cc)
 
-none_left : (job : Job) (plan : PlanSoFar) (next : Phase) → plan.left ≡ 0 → when_bought job plan ≡ Ok next → judged job plan.cost (standing_of job plan.bought) ≡ Ok next
-none_left job plan next none e = let is : (plan.left == 0) ≡ true = eq-eqb plan.left 0 none in rw is at e
+none_left : (job : Job) (store : RowStore) (plan : PlanSoFar) (next : Phase) → plan.left ≡ 0 → when_bought job store plan ≡ Ok next → judged job store plan.cost (standing_of job plan.bought) ≡ Ok next
+none_left job store plan next none e = let is : (plan.left == 0) ≡ true = eq-eqb plan.left 0 none in rw is at e
 
-some_left : (job : Job) (plan : PlanSoFar) (next : Phase) → 1 ≤ plan.left → when_bought job plan ≡ Ok next → next ≡ at_buys plan
-some_left job plan next some e =
+some_left : (job : Job) (store : RowStore) (plan : PlanSoFar) (next : Phase) → 1 ≤ plan.left → when_bought job store plan ≡ Ok next → next ≡ at_buys store plan
+some_left job store plan next some e =
     let is : (plan.left == 0) ≡ false = ne_eqb plan.left 0 (λ h. omega arith) in
     let led = rw is at e in
-    let same : at_buys plan ≡ next = cc in
+    let same : at_buys store plan ≡ next = cc in
     sym same
 
 -- a line of what is bought, where it led on
-record IsBuyLine (job : Job) (plan : PlanSoFar) (line : TreeLine) (next : Phase) : Type 0 where
+record IsBuyLine (job : Job) (store : RowStore) (plan : PlanSoFar) (line : TreeLine) (next : Phase) : Type 0 where
   i : ℕ
   k : ℕ
   u : ℕ
@@ -123,12 +123,12 @@ record IsBuyLine (job : Job) (plan : PlanSoFar) (line : TreeLine) (next : Phase)
   good : k < goods job
   some : 1 ≤ u
   order : plan.next ≤ place job i k
-  led : when_bought job (with_buy job plan i k u) ≡ Ok next
+  led : when_bought job store (with_buy job plan i k u) ≡ Ok next
 
-buy_led : (job : Job) (line : ℕ) (plan : PlanSoFar) (i k u : ℕ) (next : Phase) (b : Bool) → is_next job plan.next i k u ≡ b → after_line job line (at_buys plan) (Some (Buy i k u)) ≡ Ok next → IsBuyLine job plan (Buy i k u) next
+buy_led : (job : Job) (line : ℕ) (store : RowStore) (plan : PlanSoFar) (i k u : ℕ) (next : Phase) (b : Bool) → is_next job plan.next i k u ≡ b → after_line job line (at_buys store plan) (Some (Buy i k u)) ≡ Ok next → IsBuyLine job store plan (Buy i k u) next
 unfolding after_line
-buy_led job line plan i k u next false is e = let led = rw is at e in absurd (cc)
-buy_led job line plan i k u next true is e =
+buy_led job line store plan i k u next false is e = let led = rw is at e in absurd (cc)
+buy_led job line store plan i k u next true is e =
     let a = and_parts (ltb i (suppliers job) && ltb k (goods job) && leb 1 u && leb u QTY_MAX) (leb plan.next (place job i k)) is in
     let b = and_parts (ltb i (suppliers job) && ltb k (goods job) && leb 1 u) (leb u QTY_MAX) a.0 in
     let c = and_parts (ltb i (suppliers job) && ltb k (goods job)) (leb 1 u) b.0 in
@@ -145,20 +145,22 @@ buy_led job line plan i k u next true is e =
       led = rw is at e;
     }
 
-buy_line_is : (job : Job) (n : ℕ) (plan : PlanSoFar) (line : TreeLine) (next : Phase) → after_line job n (at_buys plan) (Some line) ≡ Ok next → IsBuyLine job plan line next
+buy_line_is : (job : Job) (n : ℕ) (store : RowStore) (plan : PlanSoFar) (line : TreeLine) (next : Phase) → after_line job n (at_buys store plan) (Some line) ≡ Ok next → IsBuyLine job store plan line next
 unfolding after_line
-buy_line_is job n plan Header next e = absurd (cc)
-buy_line_is job n plan NoPlan next e = absurd (cc)
-buy_line_is job n plan (Plan cost count) next e = absurd (cc)
-buy_line_is job n plan (Buy i k u) next e = buy_led job n plan i k u next (is_next job plan.next i k u) refl e
-buy_line_is job n plan (Split i s) next e = absurd (cc)
-buy_line_is job n plan (Bound prices) next e = absurd (cc)
-buy_line_is job n plan (Empty prices) next e = absurd (cc)
-buy_line_is job n plan Winners next e = absurd (cc)
+buy_line_is job n store plan Header next e = absurd (cc)
+buy_line_is job n store plan Header2 next e = absurd (cc)
+buy_line_is job n store plan NoPlan next e = absurd (cc)
+buy_line_is job n store plan (Plan cost count) next e = absurd (cc)
+buy_line_is job n store plan (Buy i k u) next e = buy_led job n store plan i k u next (is_next job plan.next i k u) refl e
+buy_line_is job n store plan (Split i s) next e = absurd (cc)
+buy_line_is job n store plan (Row k prices) next e = absurd (cc)
+buy_line_is job n store plan (Bound prices) next e = absurd (cc)
+buy_line_is job n store plan (Empty prices) next e = absurd (cc)
+buy_line_is job n store plan Winners next e = absurd (cc)
 
-one_more : (job : Job) (said left : ℕ) (before : List TreeLine) (line : TreeLine) (text rest : Bytes) (best : Option ℕ) → text ≡ ended line ++ rest
-    → AreBuys job said left (before ++ line ∷ []) rest best → AreBuys job said (suc left) before text best
-one_more job said left before line text rest best e buys = record {
+one_more : (job : Job) (store : RowStore) (said left : ℕ) (before : List TreeLine) (line : TreeLine) (text rest : Bytes) (best : Option ℕ) → text ≡ ended line ++ rest
+    → AreBuys job store said left (before ++ line ∷ []) rest best → AreBuys job store said (suc left) before text best
+one_more job store said left before line text rest best e buys = record {
   x = buys.x;
   more = line ∷ buys.more;
   rest = buys.rest;
@@ -170,10 +172,10 @@ one_more job said left before line text rest best e buys = record {
   whole = buys.whole;
 }
 
-pub buys_back : (left : ℕ) (job : Job) (n : ℕ) (plan : PlanSoFar) (before : List TreeLine) (text : Bytes) (best : Option ℕ) (phase : Phase) → plan.left ≡ left → Built job plan before
-    → when_bought job plan ≡ Ok phase → IsWholeAt job (reading n [] phase) text best → AreBuys job plan.cost left before text best
-buys_back zero job n plan before text best phase none built led whole =
-    let well = judged_well job plan.bought plan.cost (standing_of job plan.bought) phase refl (none_left job plan phase none led) in
+pub buys_back : (left : ℕ) (job : Job) (store : RowStore) (n : ℕ) (plan : PlanSoFar) (before : List TreeLine) (text : Bytes) (best : Option ℕ) (phase : Phase) → plan.left ≡ left → Built job plan before
+    → when_bought job store plan ≡ Ok phase → IsWholeAt job (reading n [] phase) text best → AreBuys job store plan.cost left before text best
+buys_back zero job store n plan before text best phase none built led whole =
+    let well = judged_well job store plan.bought plan.cost (standing_of job plan.bought) phase refl (none_left job store plan phase none led) in
     record {
       x = plan.bought;
       more = [];
@@ -185,32 +187,34 @@ buys_back zero job n plan before text best phase none built led whole =
       lines = n;
       whole = subst (λ (p : Phase). IsWholeAt job (reading n [] p) text best) well.1 whole;
     }
-buys_back (suc left) job n plan before text best phase due built led whole =
-    let at = some_left job plan phase (omega arith) led in
-    let next = next_line job n (at_buys plan) text best refl (subst (λ (p : Phase). IsWholeAt job (reading n [] p) text best) at whole) in
-    let buy = buy_line_is job (n + 1) plan next.line next.next next.step in
+buys_back (suc left) job store n plan before text best phase due built led whole =
+    let at = some_left job store plan phase (omega arith) led in
+    let next = next_line job n (at_buys store plan) text best refl (subst (λ (p : Phase). IsWholeAt job (reading n [] p) text best) at whole) in
+    let buy = buy_line_is job (n + 1) store plan next.line next.next next.step in
     let fewer : plan.left - 1 ≡ left = omega arith in
-    one_more job plan.cost left before (Buy buy.i buy.k buy.u) text next.rest best (next.text_is ∙ ap (λ (l : TreeLine). ended l ++ next.rest) buy.line_is)
-    (buys_back left job (n + 1) (with_buy job plan buy.i buy.k buy.u) (before ++ Buy buy.i buy.k buy.u ∷ []) next.rest best next.next fewer
+    one_more job store plan.cost left before (Buy buy.i buy.k buy.u) text next.rest best (next.text_is ∙ ap (λ (l : TreeLine). ended l ++ next.rest) buy.line_is)
+    (buys_back left job store (n + 1) (with_buy job plan buy.i buy.k buy.u) (before ++ Buy buy.i buy.k buy.u ∷ []) next.rest best next.next fewer
     (built_more job plan before buy.i buy.k buy.u built buy.supplier buy.good buy.some buy.order) buy.led next.whole)
 
 -- the line of the plan, where it led on: without a purchase, or with one, whose lines follow
-pub data IsPlanLine (job : Job) (line : TreeLine) (next : Phase) : Type 0 where
-  no_plan_led : line ≡ NoPlan → next ≡ at_nodes None (root_of job ∷ []) → IsPlanLine job line next
-  plan_led : (cost count : ℕ) → line ≡ Plan cost count → when_bought job (first_plan cost count) ≡ Ok next → IsPlanLine job line next
+pub data IsPlanLine (job : Job) (store : RowStore) (line : TreeLine) (next : Phase) : Type 0 where
+  no_plan_led : line ≡ NoPlan → next ≡ at_nodes store None (root_of job ∷ []) → IsPlanLine job store line next
+  plan_led : (cost count : ℕ) → line ≡ Plan cost count → when_bought job store (first_plan cost count) ≡ Ok next → IsPlanLine job store line next
 
-plan_led_by : (job : Job) (n cost count : ℕ) (next : Phase) (b : Bool) → nat_le count (suppliers job * goods job) ≡ b → after_line job n at_plan (Some (Plan cost count)) ≡ Ok next → IsPlanLine job (Plan cost count) next
+plan_led_by : (job : Job) (store : RowStore) (n cost count : ℕ) (next : Phase) (b : Bool) → nat_le count (suppliers job * goods job) ≡ b → after_line job n (at_plan store) (Some (Plan cost count)) ≡ Ok next → IsPlanLine job store (Plan cost count) next
 unfolding after_line
-plan_led_by job n cost count next true is e = plan_led cost count refl (rw is at e)
-plan_led_by job n cost count next false is e = let led = rw is at e in absurd (cc)
+plan_led_by job store n cost count next true is e = plan_led cost count refl (rw is at e)
+plan_led_by job store n cost count next false is e = let led = rw is at e in absurd (cc)
 
-pub plan_line_is : (job : Job) (n : ℕ) (line : TreeLine) (next : Phase) → after_line job n at_plan (Some line) ≡ Ok next → IsPlanLine job line next
+pub plan_line_is : (job : Job) (store : RowStore) (n : ℕ) (line : TreeLine) (next : Phase) → after_line job n (at_plan store) (Some line) ≡ Ok next → IsPlanLine job store line next
 unfolding after_line
-plan_line_is job n Header next e = absurd (cc)
-plan_line_is job n NoPlan next e = let same : at_nodes None (root_of job ∷ []) ≡ next = cc in no_plan_led refl (sym same)
-plan_line_is job n (Plan cost count) next e = plan_led_by job n cost count next (nat_le count (suppliers job * goods job)) refl e
-plan_line_is job n (Buy i k u) next e = absurd (cc)
-plan_line_is job n (Split i s) next e = absurd (cc)
-plan_line_is job n (Bound prices) next e = absurd (cc)
-plan_line_is job n (Empty prices) next e = absurd (cc)
-plan_line_is job n Winners next e = absurd (cc)
+plan_line_is job store n Header next e = absurd (cc)
+plan_line_is job store n Header2 next e = absurd (cc)
+plan_line_is job store n NoPlan next e = let same : at_nodes store None (root_of job ∷ []) ≡ next = cc in no_plan_led refl (sym same)
+plan_line_is job store n (Plan cost count) next e = plan_led_by job store n cost count next (nat_le count (suppliers job * goods job)) refl e
+plan_line_is job store n (Buy i k u) next e = absurd (cc)
+plan_line_is job store n (Split i s) next e = absurd (cc)
+plan_line_is job store n (Row k prices) next e = absurd (cc)
+plan_line_is job store n (Bound prices) next e = absurd (cc)
+plan_line_is job store n (Empty prices) next e = absurd (cc)
+plan_line_is job store n Winners next e = absurd (cc)

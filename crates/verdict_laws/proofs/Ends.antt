@@ -7,7 +7,7 @@ use Rattle.bound_tree.specs.ReadLine.{read_line}
 use Rattle.tree_checker.specs.declared.rejection.Why.TheVariants.{EarlyEnd, Trailing}
 use Rattle.tree_checker.specs.declared.rejection.Verdict.{Verdict}
 use Rattle.tree_checker.specs.declared.rejection.Verdict.TheVariants.{Optimal, NoPurchase, Rejected}
-use Rattle.tree_checker.specs.Verdict.{Phase, at_header, at_plan, at_buys, at_nodes, Step, Progress, reading, stopped, is_whole, line_ended, after_line, after_byte, after_bytes, at_first, verdict_at, verdict_of, verdict}
+use Rattle.tree_checker.specs.Verdict.{RowStore, Phase, at_header, at_plan, at_buys, at_nodes, Step, Progress, reading, stopped, is_whole, line_ended, after_line, after_byte, after_bytes, at_first, verdict_at, verdict_of, verdict}
 use Rattle.tree_checker.proofs.Bytewise.{stopped_stays, whole_trails}
 use Rattle.verdict_laws.specs.Shown.{IsAccepted, as_least, as_none, feeds}
 use Rattle.verdict_laws.proofs.OneLine.{bytes_append}
@@ -16,7 +16,8 @@ use Rattle.verdict_laws.proofs.OneLine.{bytes_append}
 pub record IsWholeAt (job : Job) (from : Progress) (text : Bytes) (best : Option ℕ) : Type 0 where
   pub lines : ℕ
   pub line : Bytes
-  pub read : after_bytes job from text ≡ reading lines line (at_nodes best [])
+  pub store : RowStore
+  pub read : after_bytes job from text ≡ reading lines line (at_nodes store best [])
 
 -- a verdict other than a rejection
 pub data IsYes : Verdict → Option ℕ → Type 0 where
@@ -27,18 +28,18 @@ phase_whole : (job : Job) (from : Progress) (text : Bytes) (n : ℕ) (line : Byt
     → after_bytes job from text ≡ reading n line phase → verdict_at n phase ≡ v → IsWholeAt job from text best
 phase_whole job from text n line at_header v best (least c) is e = absurd (cc)
 phase_whole job from text n line at_header v best none is e = absurd (cc)
-phase_whole job from text n line at_plan v best (least c) is e = absurd (cc)
-phase_whole job from text n line at_plan v best none is e = absurd (cc)
-phase_whole job from text n line (at_buys plan) v best (least c) is e = absurd (cc)
-phase_whole job from text n line (at_buys plan) v best none is e = absurd (cc)
-phase_whole job from text n line (at_nodes (Some d) []) v best (least c) is e = let same : d ≡ c = cc in record { lines = n; line = line; read = is ∙ ap (λ (k : ℕ). reading n line (at_nodes (Some k) [])) same }
-phase_whole job from text n line (at_nodes (Some d) []) v best none is e = absurd (cc)
-phase_whole job from text n line (at_nodes None []) v best (least c) is e = absurd (cc)
-phase_whole job from text n line (at_nodes None []) v best none is e = record { lines = n; line = line; read = is }
-phase_whole job from text n line (at_nodes (Some d) (area ∷ due)) v best (least c) is e = absurd (cc)
-phase_whole job from text n line (at_nodes (Some d) (area ∷ due)) v best none is e = absurd (cc)
-phase_whole job from text n line (at_nodes None (area ∷ due)) v best (least c) is e = absurd (cc)
-phase_whole job from text n line (at_nodes None (area ∷ due)) v best none is e = absurd (cc)
+phase_whole job from text n line (at_plan store) v best (least c) is e = absurd (cc)
+phase_whole job from text n line (at_plan store) v best none is e = absurd (cc)
+phase_whole job from text n line (at_buys store plan) v best (least c) is e = absurd (cc)
+phase_whole job from text n line (at_buys store plan) v best none is e = absurd (cc)
+phase_whole job from text n line (at_nodes store (Some d) []) v best (least c) is e = let same : d ≡ c = cc in record { lines = n; line = line; store = store; read = is ∙ ap (λ (k : ℕ). reading n line (at_nodes store (Some k) [])) same }
+phase_whole job from text n line (at_nodes store (Some d) []) v best none is e = absurd (cc)
+phase_whole job from text n line (at_nodes store None []) v best (least c) is e = absurd (cc)
+phase_whole job from text n line (at_nodes store None []) v best none is e = record { lines = n; line = line; store = store; read = is }
+phase_whole job from text n line (at_nodes store (Some d) (area ∷ due)) v best (least c) is e = absurd (cc)
+phase_whole job from text n line (at_nodes store (Some d) (area ∷ due)) v best none is e = absurd (cc)
+phase_whole job from text n line (at_nodes store None (area ∷ due)) v best (least c) is e = absurd (cc)
+phase_whole job from text n line (at_nodes store None (area ∷ due)) v best none is e = absurd (cc)
 
 progress_whole : (job : Job) (from : Progress) (text : Bytes) (p : Progress) (v : Verdict) (best : Option ℕ) → IsYes v best
     → after_bytes job from text ≡ p → verdict_of p ≡ v → IsWholeAt job from text best
@@ -95,25 +96,25 @@ lines_are_feeds job (x ∷ xs) n line phase m line' phase' e =
 
 early : (n : ℕ) (phase : Phase) → is_whole phase ≡ false → verdict_at n phase ≡ Rejected (record { line = n + 1; why = EarlyEnd })
 early n at_header whole = refl
-early n at_plan whole = refl
-early n (at_buys plan) whole = refl
-early n (at_nodes (Some c) []) whole = absurd (cc)
-early n (at_nodes None []) whole = absurd (cc)
-early n (at_nodes (Some c) (area ∷ due)) whole = refl
-early n (at_nodes None (area ∷ due)) whole = refl
+early n (at_plan store) whole = refl
+early n (at_buys store plan) whole = refl
+early n (at_nodes store (Some c) []) whole = absurd (cc)
+early n (at_nodes store None []) whole = absurd (cc)
+early n (at_nodes store (Some c) (area ∷ due)) whole = refl
+early n (at_nodes store None (area ∷ due)) whole = refl
 
 -- what is read before more bytes make it a whole tree
-before_more : (job : Job) (n : ℕ) (line : Bytes) (phase : Phase) (rest : Bytes) (best : Option ℕ) (m : ℕ) (line' : Bytes) (whole : Bool) → is_whole phase ≡ whole → rest ≢ []
-    → after_bytes job (reading n line phase) rest ≡ reading m line' (at_nodes best []) → is_whole phase ≡ false
-before_more job n line phase [] best m line' whole is some e = absurd (some refl)
-before_more job n line phase (x ∷ xs) best m line' true is some e = let trails = whole_trails job n line phase x xs is in absurd (cc)
-before_more job n line phase (x ∷ xs) best m line' false is some e = is
+before_more : (job : Job) (n : ℕ) (line : Bytes) (phase : Phase) (rest : Bytes) (store : RowStore) (best : Option ℕ) (m : ℕ) (line' : Bytes) (whole : Bool) → is_whole phase ≡ whole → rest ≢ []
+    → after_bytes job (reading n line phase) rest ≡ reading m line' (at_nodes store best []) → is_whole phase ≡ false
+before_more job n line phase [] store best m line' whole is some e = absurd (some refl)
+before_more job n line phase (x ∷ xs) store best m line' true is some e = let trails = whole_trails job n line phase x xs is in absurd (cc)
+before_more job n line phase (x ∷ xs) store best m line' false is some e = is
 
-cut_at : (job : Job) (text rest : Bytes) (best : Option ℕ) (m : ℕ) (line' : Bytes) (p : Progress) → after_bytes job at_first text ≡ p → rest ≢ []
-    → after_bytes job p rest ≡ reading m line' (at_nodes best []) → verdict_of p ≡ Rejected (record { line = feeds text + 1; why = EarlyEnd })
-cut_at job text rest best m line' (stopped rejection) is some e = let stays = stopped_stays job rejection rest in absurd (cc)
-cut_at job text rest best m line' (reading n line phase) is some e =
-    let open_still = before_more job n line phase rest best m line' (is_whole phase) refl some e in
+cut_at : (job : Job) (text rest : Bytes) (store : RowStore) (best : Option ℕ) (m : ℕ) (line' : Bytes) (p : Progress) → after_bytes job at_first text ≡ p → rest ≢ []
+    → after_bytes job p rest ≡ reading m line' (at_nodes store best []) → verdict_of p ≡ Rejected (record { line = feeds text + 1; why = EarlyEnd })
+cut_at job text rest store best m line' (stopped rejection) is some e = let stays = stopped_stays job rejection rest in absurd (cc)
+cut_at job text rest store best m line' (reading n line phase) is some e =
+    let open_still = before_more job n line phase rest store best m line' (is_whole phase) refl some e in
     let count : n ≡ feeds text = omega (arith, lines_are_feeds job text 0 [] at_header n line phase is) in
     early n phase open_still ∙ ap (λ (k : ℕ). Rejected (record { line = k + 1; why = EarlyEnd })) count
 
@@ -121,18 +122,18 @@ pub ends_early : (job : Job) (text rest : Bytes) → IsAccepted job (text ++ res
 unfolding verdict
 ends_early job text rest accepted some =
     let all = accepted_whole job (text ++ rest) accepted in
-    cut_at job text rest all.best all.whole.lines all.whole.line (after_bytes job at_first text) refl some (sym (bytes_append job at_first text rest) ∙ all.whole.read)
+    cut_at job text rest all.whole.store all.best all.whole.lines all.whole.line (after_bytes job at_first text) refl some (sym (bytes_append job at_first text rest) ∙ all.whole.read)
 
-trail : (job : Job) (text rest : Bytes) (best : Option ℕ) (n : ℕ) (line : Bytes) → after_bytes job at_first text ≡ reading n line (at_nodes best []) → rest ≢ []
+trail : (job : Job) (text rest : Bytes) (store : RowStore) (best : Option ℕ) (n : ℕ) (line : Bytes) → after_bytes job at_first text ≡ reading n line (at_nodes store best []) → rest ≢ []
     → verdict_of (after_bytes job at_first (text ++ rest)) ≡ Rejected (record { line = feeds text + 1; why = Trailing })
-trail job text [] best n line is some = absurd (some refl)
-trail job text (x ∷ xs) best n line is some =
-    let count : n ≡ feeds text = omega (arith, lines_are_feeds job text 0 [] at_header n line (at_nodes best []) is) in
-    ap verdict_of (bytes_append job at_first text (x ∷ xs) ∙ (ap (λ (p : Progress). after_bytes job p (x ∷ xs)) is ∙ whole_trails job n line (at_nodes best []) x xs refl))
+trail job text [] store best n line is some = absurd (some refl)
+trail job text (x ∷ xs) store best n line is some =
+    let count : n ≡ feeds text = omega (arith, lines_are_feeds job text 0 [] at_header n line (at_nodes store best []) is) in
+    ap verdict_of (bytes_append job at_first text (x ∷ xs) ∙ (ap (λ (p : Progress). after_bytes job p (x ∷ xs)) is ∙ whole_trails job n line (at_nodes store best []) x xs refl))
     ∙ ap (λ (k : ℕ). Rejected (record { line = k + 1; why = Trailing })) count
 
 pub trails : (job : Job) (text rest : Bytes) → IsAccepted job text → rest ≢ [] → verdict job (text ++ rest) ≡ Rejected (record { line = feeds text + 1; why = Trailing })
 unfolding verdict
 trails job text rest accepted some =
     let all = accepted_whole job text accepted in
-    trail job text rest all.best all.whole.lines all.whole.line all.whole.read some
+    trail job text rest all.whole.store all.best all.whole.lines all.whole.line all.whole.read some

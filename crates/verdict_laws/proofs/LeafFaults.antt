@@ -18,7 +18,7 @@ use Rattle.bound_tree.specs.Value.{value, free_value}
 use Rattle.bound_tree.specs.Kills.{Kills, LeafFits}
 use Rattle.bound_tree.specs.LineHead.{is_beyond}
 use Rattle.bound_tree.specs.TreeText.{all_prices, leaf_line}
-use Rattle.tree_checker.specs.Verdict.{at_nodes, after_line, prices_wanted, row_fault, short_fault, free_fault, bound_fault, empty_fault, winners_fault, after_leaf}
+use Rattle.tree_checker.specs.Verdict.{in_leaves, at_nodes, after_line, prices_wanted, row_fault, short_fault, free_fault, bound_fault, empty_fault, winners_fault, after_leaf}
 
 within : (p : ℤ) → IsPrice p → is_beyond p ≡ false
 within p is =
@@ -30,7 +30,7 @@ none_beyond : (prices : List ℤ) → All IsPrice prices → find is_beyond pric
 none_beyond [] all = refl
 none_beyond (p ∷ ps) all = rw (within p (All-head IsPrice p ps all)) (none_beyond ps (All-tail IsPrice p ps all))
 
-one_list : (job : Job) (area : IntervalBox) (row : Prices) → Fits job area row → row_of job (all_prices row) ≡ row
+pub one_list : (job : Job) (area : IntervalBox) (row : Prices) → Fits job area row → row_of job (all_prices row) ≡ row
 unfolding row_of
 one_list job area row fits =
     let front : take (goods job) (row.goods ++ row.places) ≡ row.goods = rw (← fits.goods) (take-append_seam row.goods row.places) in
@@ -43,11 +43,11 @@ no_row_fault job area row fits =
     let none = none_beyond (all_prices row) (All-append IsPrice row.goods row.places fits.good_prices fits.place_prices) in
     rw (count, none) refl
 
-reaches : (best : Option ℕ) (v : ℤ) → IsSomeAnd best (λ c. pos c ≤ℤ v) → short_fault best v ≡ None
+pub reaches : (best : Option ℕ) (v : ℤ) → IsSomeAnd best (λ c. pos c ≤ℤ v) → short_fault best v ≡ None
 reaches None v kills = absurd kills
 reaches (Some c) v kills = let is : int_le (pos c) v ≡ true = grind (arith, ints, kills) in rw is refl
 
-above : (v : ℤ) → pos 0 <ℤ v → free_fault v ≡ None
+pub above : (v : ℤ) → pos 0 <ℤ v → free_fault v ≡ None
 above v kills = let is : int_lt (pos 0) v ≡ true = grind (arith, ints, kills) in rw is refl
 
 either : (a b : Bool) → (a ≡ true) ⊎ (b ≡ true) → (a || b) ≡ true
@@ -55,21 +55,21 @@ either true b h = refl
 either false b (inl h) = absurd (cc)
 either false b (inr h) = h
 
-fail : (job : Job) (area : IntervalBox) → WinnersFail job area → winners_fault job area ≡ None
+pub fail : (job : Job) (area : IntervalBox) → WinnersFail job area → winners_fault job area ≡ None
 fail job area (inl many) = rw (either (nat_lt (most_winners job) (sure_winners job area)) (nat_lt (possible_winners job area) (least_winners job)) (inl (lt-ltb _ _ many))) refl
 fail job area (inr few) = rw (either (nat_lt (most_winners job) (sure_winners job area)) (nat_lt (possible_winners job area) (least_winners job)) (inr (lt-ltb _ _ few))) refl
 
 -- the line of a leaf that kills its box leads to the next box
 pub leaf_goes : (job : Job) (n : ℕ) (best : Option ℕ) (area : IntervalBox) (due : List IntervalBox) (leaf : Leaf) → Kills job area best leaf
-    → after_line job n (at_nodes best (area ∷ due)) (Some (leaf_line leaf)) ≡ after_leaf n best due None
+    → after_line job n (at_nodes in_leaves best (area ∷ due)) (Some (leaf_line leaf)) ≡ after_leaf n in_leaves best due None
 unfolding after_line
 leaf_goes job n best area due (Bound row) kills =
     let none : bound_fault job best area (all_prices row) ≡ None = rw (no_row_fault job area row (kills.0)) (rw (one_list job area row (kills.0)) (reaches best (value job area row) (kills.1))) in
-    ap (after_leaf n best due) none
+    ap (after_leaf n in_leaves best due) none
 leaf_goes job n best area due (Empty row) kills =
     let none : empty_fault job area (all_prices row) ≡ None = rw (no_row_fault job area row (kills.0)) (rw (one_list job area row (kills.0)) (above (free_value job area row) (kills.1))) in
-    ap (after_leaf n best due) none
-leaf_goes job n best area due Winners kills = ap (after_leaf n best due) (fail job area kills)
+    ap (after_leaf n in_leaves best due) none
+leaf_goes job n best area due Winners kills = ap (after_leaf n in_leaves best due) (fail job area kills)
 
 pub kills_fits : (job : Job) (area : IntervalBox) (best : Option ℕ) (leaf : Leaf) → Kills job area best leaf → LeafFits job area leaf
 kills_fits job area best (Bound row) kills = kills.0

@@ -9,7 +9,7 @@ use Rattle.bound_tree.specs.ReadLine.{read_line}
 use Rattle.bound_tree.specs.TreeText.{ended}
 use Rattle.bound_tree.proofs.LineLaws.{read_as_text}
 use Rattle.tree_checker.specs.declared.rejection.Rejection.{Rejection}
-use Rattle.tree_checker.specs.Verdict.{Phase, at_header, at_plan, at_buys, at_nodes, Step, reading, stopped, is_whole, line_ended, after_line, after_byte}
+use Rattle.tree_checker.specs.Verdict.{in_leaves, in_slots, Phase, at_header, at_plan, at_buys, at_nodes, Step, reading, stopped, is_whole, line_ended, after_line, after_byte}
 use Rattle.tree_checker.proofs.Bytewise.{stopped_stays}
 use Rattle.verdict_laws.proofs.Ends.{IsWholeAt}
 
@@ -26,10 +26,11 @@ pub record HasNext (job : Job) (n : ℕ) (phase : Phase) (text : Bytes) (best : 
 no_line : (job : Job) (n : ℕ) (phase next : Phase) → after_line job n phase None ≡ Ok next → ⊥
 unfolding after_line
 no_line job n at_header next e = cc
-no_line job n at_plan next e = cc
-no_line job n (at_buys plan) next e = cc
-no_line job n (at_nodes best []) next e = cc
-no_line job n (at_nodes best (area ∷ due)) next e = cc
+no_line job n (at_plan store) next e = cc
+no_line job n (at_buys store plan) next e = cc
+no_line job n (at_nodes store best []) next e = cc
+no_line job n (at_nodes in_leaves best (area ∷ due)) next e = cc
+no_line job n (at_nodes (in_slots slots) best (area ∷ due)) next e = cc
 
 line_stops : (job : Job) (rejection : Rejection) (rest : Bytes) (best : Option ℕ) → IsWholeAt job (stopped rejection) rest best → ⊥
 line_stops job rejection rest best whole = let stays = stopped_stays job rejection rest in let read = whole.read in cc
@@ -54,16 +55,16 @@ byte_next : (job : Job) (n : ℕ) (phase : Phase) (line : Bytes) (x : ℕ) (xs :
 unfolding after_byte
 byte_next job n phase line x xs best true open_still is whole more =
     let ten : x ≡ 10 = eqb-true x 10 is in
-    let after : IsWholeAt job (line_ended (n + 1) (after_line job (n + 1) phase (read_line line))) xs best = record { lines = whole.lines; line = whole.line; read = rw (open_still, is) at whole.read } in
+    let after : IsWholeAt job (line_ended (n + 1) (after_line job (n + 1) phase (read_line line))) xs best = record { lines = whole.lines; line = whole.line; store = whole.store; read = rw (open_still, is) at whole.read } in
     subst (λ (b : ℕ). HasNext job n phase (line ++ b ∷ xs) best) (sym ten) (led job n phase line xs best (read_line line) (after_line job (n + 1) phase (read_line line)) refl refl after)
 byte_next job n phase line x xs best false open_still is whole more =
-    let after : IsWholeAt job (reading n (line ++ x ∷ []) phase) xs best = record { lines = whole.lines; line = whole.line; read = rw (open_still, is) at whole.read } in
+    let after : IsWholeAt job (reading n (line ++ x ∷ []) phase) xs best = record { lines = whole.lines; line = whole.line; store = whole.store; read = rw (open_still, is) at whole.read } in
     subst (λ (t : Bytes). HasNext job n phase t best) (append_assoc line (x ∷ []) xs) (more after)
 
 never_whole : (job : Job) (n : ℕ) (phase : Phase) (line : Bytes) (best : Option ℕ) → is_whole phase ≡ false → IsWholeAt job (reading n line phase) [] best → ⊥
 never_whole job n phase line best open_still whole =
     let read = whole.read in
-    let same : phase ≡ at_nodes best [] = cc in
+    let same : phase ≡ at_nodes whole.store best [] = cc in
     let not_open = ap is_whole same in
     cc
 

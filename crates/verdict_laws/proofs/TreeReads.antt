@@ -20,7 +20,7 @@ use Rattle.bound_tree.specs.TreeText.{node_line, ended, lines_text, leaf_line}
 use Rattle.bound_tree.proofs.Texts.{map_append}
 use Rattle.bound_tree.proofs.TreeLines.{lines_append, lines_first, one_piece}
 use Rattle.bound_tree.proofs.LineLaws.{counts_are_read, leaf_is_read}
-use Rattle.tree_checker.specs.Verdict.{reading, at_nodes, is_split, line_ended, after_line, after_bytes}
+use Rattle.tree_checker.specs.Verdict.{RowStore, in_leaves, in_slots, reading, at_nodes, is_split, line_ended, after_line, after_bytes}
 use Rattle.verdict_laws.proofs.OneLine.{line_step}
 use Rattle.verdict_laws.proofs.LeafFaults.{leaf_goes, kills_fits}
 
@@ -34,7 +34,7 @@ count tree = length (nodes_of tree)
 -- reading a tree whose box is due, before other boxes
 abbrev pub Reads : Job → Option ℕ → IntervalBox → BoxTree → Type 0
 Reads job best area tree = (due : List IntervalBox) (n : ℕ) (after : Bytes)
-    → after_bytes job (reading n [] (at_nodes best (area ∷ due))) (node_text tree ++ after) ≡ after_bytes job (reading (n + count tree) [] (at_nodes best due)) after
+    → after_bytes job (reading n [] (at_nodes in_leaves best (area ∷ due))) (node_text tree ++ after) ≡ after_bytes job (reading (n + count tree) [] (at_nodes in_leaves best due)) after
 
 pub leaf_text : (leaf : _) → node_text (at_leaf leaf) ≡ ended (leaf_line leaf)
 unfolding node_text nodes_of
@@ -61,15 +61,16 @@ split_fits job area i s b p =
     let high : nat_lt s (high_of area i) ≡ true = lt-ltb _ _ p.below_high in
     rw (supplier, low, high) refl
 
-split_goes : (job : Job) (n : ℕ) (best : Option ℕ) (area : IntervalBox) (due : List IntervalBox) (i s : ℕ) → IsBoxOf job area → IsProper area i s
-    → after_line job n (at_nodes best (area ∷ due)) (Some (Split i s)) ≡ Ok (at_nodes best (low_half area i s ∷ high_half area i s ∷ due))
+pub split_goes : (job : Job) (n : ℕ) (store : RowStore) (best : Option ℕ) (area : IntervalBox) (due : List IntervalBox) (i s : ℕ) → IsBoxOf job area → IsProper area i s
+    → after_line job n (at_nodes store best (area ∷ due)) (Some (Split i s)) ≡ Ok (at_nodes store best (low_half area i s ∷ high_half area i s ∷ due))
 unfolding after_line
-split_goes job n best area due i s b p = rw (split_fits job area i s b p) refl
+split_goes job n in_leaves best area due i s b p = rw (split_fits job area i s b p) refl
+split_goes job n (in_slots slots) best area due i s b p = rw (split_fits job area i s b p) refl
 
 pub two_spelled : (a b : ℕ) → a < 10 ^ 23 → b < 10 ^ 23 → All (λ (z : ℤ). unsigned_abs z < 10 ^ 23) (pos a ∷ pos b ∷ [])
 two_spelled a b h j = All-cons (λ (z : ℤ). unsigned_abs z < 10 ^ 23) (pos a) (pos b ∷ []) h (All-cons (λ (z : ℤ). unsigned_abs z < 10 ^ 23) (pos b) [] j (All-nil (λ (z : ℤ). unsigned_abs z < 10 ^ 23)))
 
-split_is_read : (job : Job) (area : IntervalBox) (i s : ℕ) → IsBoxOf job area → IsProper area i s → read_line (line_text (Split i s)) ≡ Some (Split i s)
+pub split_is_read : (job : Job) (area : IntervalBox) (i s : ℕ) → IsBoxOf job area → IsProper area i s → read_line (line_text (Split i s)) ≡ Some (Split i s)
 split_is_read job area i s b p =
     let at = place job area i s b p in
     let few = (job_in_range job).few_suppliers in
@@ -82,17 +83,17 @@ split_is_read job area i s b p =
 pub tree_reads : (job : Job) (best : Option ℕ) (tree : BoxTree) (area : IntervalBox) → IsBoxOf job area → IsValid job best area tree → Reads job best area tree
 unfolding IsValid
 tree_reads job best (at_leaf leaf) area b valid due n after =
-    ap (λ (t : Bytes). after_bytes job (reading n [] (at_nodes best (area ∷ due))) (t ++ after)) (leaf_text leaf)
-    ∙ (line_step job n (at_nodes best (area ∷ due)) (leaf_line leaf) after refl (leaf_is_read job area leaf b (kills_fits job area best leaf valid))
+    ap (λ (t : Bytes). after_bytes job (reading n [] (at_nodes in_leaves best (area ∷ due))) (t ++ after)) (leaf_text leaf)
+    ∙ (line_step job n (at_nodes in_leaves best (area ∷ due)) (leaf_line leaf) after refl (leaf_is_read job area leaf b (kills_fits job area best leaf valid))
     ∙ (ap (λ r. after_bytes job (line_ended (n + 1) r) after) (leaf_goes job (n + 1) best area due leaf valid)
-    ∙ ap (λ (m : ℕ). after_bytes job (reading m [] (at_nodes best due)) after) (let e = leaf_count leaf in let f : n + 1 ≡ n + count (at_leaf leaf) = omega arith in f)))
+    ∙ ap (λ (m : ℕ). after_bytes job (reading m [] (at_nodes in_leaves best due)) after) (let e = leaf_count leaf in let f : n + 1 ≡ n + count (at_leaf leaf) = omega arith in f)))
 tree_reads job best (at_split i s low high) area b valid due n after =
     let lower = low_half area i s in
     let upper = high_half area i s in
-    ap (λ (t : Bytes). after_bytes job (reading n [] (at_nodes best (area ∷ due))) t)
+    ap (λ (t : Bytes). after_bytes job (reading n [] (at_nodes in_leaves best (area ∷ due))) t)
     (ap (λ (t : Bytes). t ++ after) (split_text i s low high) ∙ (append_assoc (ended (Split i s)) (node_text low ++ node_text high) after ∙ ap (λ (t : Bytes). ended (Split i s) ++ t) (append_assoc (node_text low) (node_text high) after)))
-    ∙ (line_step job n (at_nodes best (area ∷ due)) (Split i s) (node_text low ++ (node_text high ++ after)) refl (split_is_read job area i s b (valid.0))
-    ∙ (ap (λ r. after_bytes job (line_ended (n + 1) r) (node_text low ++ (node_text high ++ after))) (split_goes job (n + 1) best area due i s b (valid.0))
+    ∙ (line_step job n (at_nodes in_leaves best (area ∷ due)) (Split i s) (node_text low ++ (node_text high ++ after)) refl (split_is_read job area i s b (valid.0))
+    ∙ (ap (λ r. after_bytes job (line_ended (n + 1) r) (node_text low ++ (node_text high ++ after))) (split_goes job (n + 1) in_leaves best area due i s b (valid.0))
     ∙ (tree_reads job best low lower (low_is_box job area i s b (valid.0)) (valid.1) (upper ∷ due) (n + 1) (node_text high ++ after)
     ∙ (tree_reads job best high upper (high_is_box job area i s b (valid.0)) (valid.2) due (n + 1 + count low) after
-    ∙ ap (λ (m : ℕ). after_bytes job (reading m [] (at_nodes best due)) after) (let e = split_count i s low high in let f : n + 1 + count low + count high ≡ n + count (at_split i s low high) = omega arith in f)))))
+    ∙ ap (λ (m : ℕ). after_bytes job (reading m [] (at_nodes in_leaves best due)) after) (let e = split_count i s low high in let f : n + 1 + count low + count high ≡ n + count (at_split i s low high) = omega arith in f)))))

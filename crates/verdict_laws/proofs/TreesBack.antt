@@ -17,14 +17,14 @@ use Rattle.interval_box.proofs.Split.{low_is_box, high_is_box}
 use Rattle.bound_tree.specs.declared.leaf.Leaf.{Leaf}
 use Rattle.bound_tree.specs.declared.leaf.Leaf.TheVariants.{Bound as BoundLeaf, Empty as EmptyLeaf, Winners as WinnersLeaf}
 use Rattle.bound_tree.specs.declared.line.TreeLine.{TreeLine}
-use Rattle.bound_tree.specs.declared.line.TreeLine.TheVariants.{Header, NoPlan, Plan, Buy, Split, Bound, Empty, Winners}
+use Rattle.bound_tree.specs.declared.line.TreeLine.TheVariants.{Header, Header2, NoPlan, Plan, Buy, Split, Row, Bound, Empty, Winners}
 use Rattle.bound_tree.specs.BoxTree.{BoxTree, at_leaf, at_split, IsValid}
 use Rattle.bound_tree.specs.Kills.{Kills}
 use Rattle.bound_tree.specs.Prices.{row_of}
 use Rattle.bound_tree.specs.TreeText.{all_prices, leaf_line, ended}
 use Rattle.bound_tree.specs.Value.{value, free_value}
 use Rattle.tree_checker.specs.declared.rejection.Why.{Why}
-use Rattle.tree_checker.specs.Verdict.{Phase, at_nodes, reading, is_split, row_fault, or_fault, short_fault, free_fault, bound_fault, empty_fault, winners_fault, after_leaf, after_split, after_line}
+use Rattle.tree_checker.specs.Verdict.{RowStore, in_leaves, Phase, at_nodes, reading, is_split, row_fault, or_fault, short_fault, free_fault, bound_fault, empty_fault, winners_fault, after_leaf, after_split, after_line}
 use Rattle.tree_checker.proofs.Bytewise.{whole_trails}
 use Rattle.verdict_laws.proofs.Ends.{IsWholeAt}
 use Rattle.verdict_laws.proofs.NextLines.{next_line, shorter}
@@ -45,7 +45,7 @@ reaching_test : (c : ℕ) (v : ℤ) (b : Bool) (why : Why) → int_le (pos c) v 
 reaching_test c v true why is e = grind (arith, ints, is)
 reaching_test c v false why is e = absurd (cc)
 
-reaching : (best : Option ℕ) (v : ℤ) → short_fault best v ≡ None → IsSomeAnd best (λ c. pos c ≤ℤ v)
+pub reaching : (best : Option ℕ) (v : ℤ) → short_fault best v ≡ None → IsSomeAnd best (λ c. pos c ≤ℤ v)
 reaching None v e = absurd (cc)
 reaching (Some c) v e = reaching_test c v (int_le (pos c) v) _ refl e
 
@@ -53,7 +53,7 @@ above_test : (v : ℤ) (b : Bool) (why : Why) → int_lt (pos 0) v ≡ b → (if
 above_test v true why is e = grind (arith, ints, is)
 above_test v false why is e = absurd (cc)
 
-above : (v : ℤ) → free_fault v ≡ None → pos 0 <ℤ v
+pub above : (v : ℤ) → free_fault v ≡ None → pos 0 <ℤ v
 above v e = above_test v (int_lt (pos 0) v) _ refl e
 
 winners_test : (a b : Bool) (why : Why) → (if a || b then None else Some why) ≡ None → (a || b) ≡ true
@@ -61,7 +61,7 @@ winners_test true b why e = refl
 winners_test false true why e = refl
 winners_test false false why e = absurd (cc)
 
-winners_fail : (job : Job) (area : IntervalBox) → winners_fault job area ≡ None → WinnersFail job area
+pub winners_fail : (job : Job) (area : IntervalBox) → winners_fault job area ≡ None → WinnersFail job area
 winners_fail job area e =
     elim (or_cases (nat_lt (most_winners job) (sure_winners job area)) (nat_lt (possible_winners job area) (least_winners job))
     (winners_test (nat_lt (most_winners job) (sure_winners job area)) (nat_lt (possible_winners job area) (least_winners job)) _ e)) [
@@ -69,7 +69,7 @@ winners_fail job area e =
       | inr few ↦ inr (ltb-true (possible_winners job area) (least_winners job) few)
     ]
 
-one_list : (job : Job) (prices : List ℤ) → prices ≡ all_prices (row_of job prices)
+pub one_list : (job : Job) (prices : List ℤ) → prices ≡ all_prices (row_of job prices)
 unfolding row_of
 one_list job prices = sym (take-append-drop (goods job) prices)
 
@@ -96,34 +96,36 @@ winners_kill job best area e = record { leaf = WinnersLeaf; line_is = refl; kill
 
 -- what a node's line was, where it led on
 data IsNodeLine (job : Job) (best : Option ℕ) (area : IntervalBox) (due : List IntervalBox) : TreeLine → Phase → Type 0 where
-  leaf_led : {line : TreeLine} {next : Phase} → IsKilling job best area line → next ≡ at_nodes best due → IsNodeLine job best area due line next
-  split_led : {line : TreeLine} {next : Phase} (i s : ℕ) → line ≡ Split i s → is_split job area i s ≡ true → next ≡ at_nodes best (low_half area i s ∷ high_half area i s ∷ due) → IsNodeLine job best area due line next
+  leaf_led : {line : TreeLine} {next : Phase} → IsKilling job best area line → next ≡ at_nodes in_leaves best due → IsNodeLine job best area due line next
+  split_led : {line : TreeLine} {next : Phase} (i s : ℕ) → line ≡ Split i s → is_split job area i s ≡ true → next ≡ at_nodes in_leaves best (low_half area i s ∷ high_half area i s ∷ due) → IsNodeLine job best area due line next
 
-leaf_next : (n : ℕ) (best : Option ℕ) (due : List IntervalBox) (fault : Option Why) (next : Phase) → after_leaf n best due fault ≡ Ok next → (fault ≡ None) × (next ≡ at_nodes best due)
-leaf_next n best due None next e = let same : at_nodes best due ≡ next = cc in (refl, sym same)
-leaf_next n best due (Some why) next e = absurd (cc)
+pub leaf_next : (n : ℕ) (store : RowStore) (best : Option ℕ) (due : List IntervalBox) (fault : Option Why) (next : Phase) → after_leaf n store best due fault ≡ Ok next → (fault ≡ None) × (next ≡ at_nodes store best due)
+leaf_next n store best due None next e = let same : at_nodes store best due ≡ next = cc in (refl, sym same)
+leaf_next n store best due (Some why) next e = absurd (cc)
 
-split_next : (job : Job) (n : ℕ) (best : Option ℕ) (area : IntervalBox) (due : List IntervalBox) (i s : ℕ) (b : Bool) (next : Phase) → is_split job area i s ≡ b
-    → after_split job n best area due i s ≡ Ok next → (is_split job area i s ≡ true) × (next ≡ at_nodes best (low_half area i s ∷ high_half area i s ∷ due))
-split_next job n best area due i s true next is e =
+pub split_next : (job : Job) (n : ℕ) (store : RowStore) (best : Option ℕ) (area : IntervalBox) (due : List IntervalBox) (i s : ℕ) (b : Bool) (next : Phase) → is_split job area i s ≡ b
+    → after_split job n store best area due i s ≡ Ok next → (is_split job area i s ≡ true) × (next ≡ at_nodes store best (low_half area i s ∷ high_half area i s ∷ due))
+split_next job n store best area due i s true next is e =
     let led = rw is at e in
-    let same : at_nodes best (low_half area i s ∷ high_half area i s ∷ due) ≡ next = cc in
+    let same : at_nodes store best (low_half area i s ∷ high_half area i s ∷ due) ≡ next = cc in
     (is, sym same)
-split_next job n best area due i s false next is e = let led = rw is at e in absurd (cc)
+split_next job n store best area due i s false next is e = let led = rw is at e in absurd (cc)
 
 node_line_is : (job : Job) (n : ℕ) (best : Option ℕ) (area : IntervalBox) (due : List IntervalBox) (line : TreeLine) (next : Phase)
-    → after_line job n (at_nodes best (area ∷ due)) (Some line) ≡ Ok next → IsNodeLine job best area due line next
+    → after_line job n (at_nodes in_leaves best (area ∷ due)) (Some line) ≡ Ok next → IsNodeLine job best area due line next
 unfolding after_line
 node_line_is job n best area due Header next e = absurd (cc)
+node_line_is job n best area due Header2 next e = absurd (cc)
 node_line_is job n best area due NoPlan next e = absurd (cc)
 node_line_is job n best area due (Plan cost count) next e = absurd (cc)
 node_line_is job n best area due (Buy i k u) next e = absurd (cc)
-node_line_is job n best area due (Split i s) next e = let led = split_next job n best area due i s (is_split job area i s) next refl e in split_led i s refl led.0 led.1
-node_line_is job n best area due (Bound prices) next e = let led = leaf_next n best due (bound_fault job best area prices) next e in leaf_led (bound_kills job best area prices led.0) led.1
-node_line_is job n best area due (Empty prices) next e = let led = leaf_next n best due (empty_fault job area prices) next e in leaf_led (empty_kills job best area prices led.0) led.1
-node_line_is job n best area due Winners next e = let led = leaf_next n best due (winners_fault job area) next e in leaf_led (winners_kill job best area led.0) led.1
+node_line_is job n best area due (Split i s) next e = let led = split_next job n in_leaves best area due i s (is_split job area i s) next refl e in split_led i s refl led.0 led.1
+node_line_is job n best area due (Row k prices) next e = absurd (cc)
+node_line_is job n best area due (Bound prices) next e = let led = leaf_next n in_leaves best due (bound_fault job best area prices) next e in leaf_led (bound_kills job best area prices led.0) led.1
+node_line_is job n best area due (Empty prices) next e = let led = leaf_next n in_leaves best due (empty_fault job area prices) next e in leaf_led (empty_kills job best area prices led.0) led.1
+node_line_is job n best area due Winners next e = let led = leaf_next n in_leaves best due (winners_fault job area) next e in leaf_led (winners_kill job best area led.0) led.1
 
-proper_from : (job : Job) (area : IntervalBox) (i s : ℕ) → is_split job area i s ≡ true → IsProper area i s
+pub proper_from : (job : Job) (area : IntervalBox) (i s : ℕ) → is_split job area i s ≡ true → IsProper area i s
 proper_from job area i s e =
     let first = and_parts (ltb i (suppliers job) && leb (low_of area i) s) (ltb s (high_of area i)) e in
     let second = and_parts (ltb i (suppliers job)) (leb (low_of area i) s) first.0 in
@@ -134,11 +136,11 @@ abbrev pub AreTrees : Job → Option ℕ → List IntervalBox → Bytes → Type
 AreTrees job best [] text = text ≡ []
 AreTrees job best (area ∷ due) text = (tree : BoxTree) × (rest : Bytes) × IsValid job best area tree × (text ≡ node_text tree ++ rest) × AreTrees job best due rest
 
-leaf_valid : (job : Job) (best : Option ℕ) (area : IntervalBox) (leaf : Leaf) → Kills job area best leaf → IsValid job best area (at_leaf leaf)
+pub leaf_valid : (job : Job) (best : Option ℕ) (area : IntervalBox) (leaf : Leaf) → Kills job area best leaf → IsValid job best area (at_leaf leaf)
 unfolding IsValid
 leaf_valid job best area leaf kills = kills
 
-split_valid : (job : Job) (best : Option ℕ) (area : IntervalBox) (i s : ℕ) (low high : BoxTree) → IsProper area i s → IsValid job best (low_half area i s) low
+pub split_valid : (job : Job) (best : Option ℕ) (area : IntervalBox) (i s : ℕ) (low high : BoxTree) → IsProper area i s → IsValid job best (low_half area i s) low
     → IsValid job best (high_half area i s) high → IsValid job best area (at_split i s low high)
 unfolding IsValid
 split_valid job best area i s low high proper first second = (proper, first, second)
@@ -174,13 +176,13 @@ pub record IsRead (job : Job) (best found : Option ℕ) (due : List IntervalBox)
   pub best_is : found ≡ best
   pub trees : AreTrees job best due text
 
-none_due : (job : Job) (n : ℕ) (best found : Option ℕ) (text : Bytes) → IsWholeAt job (reading n [] (at_nodes best [])) text found → IsRead job best found [] text
-none_due job n best found [] whole = let read = whole.read in let same : at_nodes best [] ≡ at_nodes found [] = cc in let is : best ≡ found = cc in record { best_is = sym is; trees = refl }
-none_due job n best found (x ∷ xs) whole = let trails = whole_trails job n [] (at_nodes best []) x xs refl in let read = whole.read in absurd (cc)
+none_due : (job : Job) (n : ℕ) (best found : Option ℕ) (text : Bytes) → IsWholeAt job (reading n [] (at_nodes in_leaves best [])) text found → IsRead job best found [] text
+none_due job n best found [] whole = let read = whole.read in let same : at_nodes in_leaves best [] ≡ at_nodes whole.store found [] = cc in let is : best ≡ found = cc in record { best_is = sym is; trees = refl }
+none_due job n best found (x ∷ xs) whole = let trails = whole_trails job n [] (at_nodes in_leaves best []) x xs refl in let read = whole.read in absurd (cc)
 
 step_back : (job : Job) (n : ℕ) (best found : Option ℕ) (area : IntervalBox) (due : List IntervalBox) (text rest : Bytes) (line : TreeLine) (next : Phase) → IsBoxOf job area → All (IsBoxOf job) due
     → IsNodeLine job best area due line next → text ≡ ended line ++ rest → IsWholeAt job (reading (n + 1) [] next) rest found
-    → ((boxes : List IntervalBox) → All (IsBoxOf job) boxes → IsWholeAt job (reading (n + 1) [] (at_nodes best boxes)) rest found → IsRead job best found boxes rest)
+    → ((boxes : List IntervalBox) → All (IsBoxOf job) boxes → IsWholeAt job (reading (n + 1) [] (at_nodes in_leaves best boxes)) rest found → IsRead job best found boxes rest)
     → IsRead job best found (area ∷ due) text
 step_back job n best found area due text rest line next b others (leaf_led kills is) e whole back =
     let later = back due others (subst (λ (p : Phase). IsWholeAt job (reading (n + 1) [] p) rest found) is whole) in
@@ -194,13 +196,13 @@ step_back job n best found area due text rest line next b others (split_led i s 
 
 -- what is left is the texts of valid trees of the boxes that are due
 pub trees_back : (fuel : ℕ) (job : Job) (best found : Option ℕ) (due : List IntervalBox) (n : ℕ) (text : Bytes) → All (IsBoxOf job) due → length text ≤ fuel
-    → IsWholeAt job (reading n [] (at_nodes best due)) text found → IsRead job best found due text
+    → IsWholeAt job (reading n [] (at_nodes in_leaves best due)) text found → IsRead job best found due text
 trees_back fuel job best found [] n text all short whole = none_due job n best found text whole
 trees_back zero job best found (area ∷ due) n text all short whole =
-    let next = next_line job n (at_nodes best (area ∷ due)) text found refl whole in
+    let next = next_line job n (at_nodes in_leaves best (area ∷ due)) text found refl whole in
     absurd (let less = shorter text next.rest next.line next.text_is in omega arith)
 trees_back (suc fuel) job best found (area ∷ due) n text all short whole =
-    let next = next_line job n (at_nodes best (area ∷ due)) text found refl whole in
+    let next = next_line job n (at_nodes in_leaves best (area ∷ due)) text found refl whole in
     let less = shorter text next.rest next.line next.text_is in
     step_back job n best found area due text next.rest next.line next.next (All-head (IsBoxOf job) area due all) (All-tail (IsBoxOf job) area due all)
     (node_line_is job (n + 1) best area due next.line next.next next.step) next.text_is next.whole

@@ -8,7 +8,7 @@ use Rattle.bound_tree.proofs.read_line.prices_into.Goals as goal
 
 pub loop-place-init : goal.loop-place-init
 loop-place-init c =
-    let first = left_at_first (length c.args.out.now) c.args.line.now _ _ c.of-fields.ensures c.requires in
+    let first = left_at_first (length c.args.out.now) c.args.line.now _ c.of_prices-fields.ensures c.requires in
     record { left = first.0; read = read_none (prices_of c.args.line.now) c.args.out.now first.1 }
 
 pub next_price-price-requires-clause-some : goal.next_price-price-requires-clause-some

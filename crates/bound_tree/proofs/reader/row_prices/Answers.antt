@@ -9,7 +9,7 @@ use Rattle.bound_tree.proofs.reader.row_prices.Goals as goal
 
 pub loop-place-init : goal.loop-place-init
 loop-place-init c =
-    let first = left_at_first c.args.count c.args.line.now _ _ c.of-fields.ensures c.requires in
+    let first = left_at_first c.args.count c.args.line.now _ c.of_prices-fields.ensures c.requires in
     record { left = first.0; count = first.1; done = c.new-numbers.ensures.items }
 
 pub next_price-requires-clause-some : goal.next_price-requires-clause-some

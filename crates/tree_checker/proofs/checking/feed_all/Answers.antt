@@ -1,12 +1,10 @@
-use Rattle.std.proofs.Common.{ℕ, ◌≡◌, ◌+◌, ◌≤◌, ◌<◌, [], ◌++◌, length, take, Result, refl, sym, ◌∙◌, ap, subst, arith}
+use Rattle.std.proofs.Common.{ℕ, ◌≡◌, ◌+◌, ◌≤◌, [], ◌++◌, length, take, refl, sym, ◌∙◌, ap, subst, arith}
 use Rattle.std.proofs.lemmas.List.{length-take-le}
 use Rattle.tqd_instance.specs.declared.job.Job.{Job}
 use Rattle.tqd_base.specs.declared.limits.TheConstants.{TREE_MAX}
 use Rattle.tqd_base.specs.Calls.{Takes}
 use Rattle.tqd_base.proofs.Taken.{Taken, taken_none, taken_more, reads_after}
-use Rattle.tree_checker.specs.declared.rejection.Verdict.{Verdict}
 use Rattle.tree_checker.specs.declared.rejection.Feed.TheVariants.{More, Rejected}
-use Rattle.tree_checker.specs.declared.checking.CheckStop.{CheckStop}
 use Rattle.tree_checker.specs.CheckStops.{check_stop_of}
 use Rattle.tree_checker.specs.CheckFrom.{CheckFromGives}
 use Rattle.tree_checker.specs.Verdict.{verdict}

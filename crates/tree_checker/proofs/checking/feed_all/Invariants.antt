@@ -1,4 +1,4 @@
-use Rattle.std.proofs.Common.{◌≡◌, ◌+◌, ◌-◌, ◌≤◌}
+use Rattle.std.proofs.Common.{◌≡◌, ◌-◌, ◌≤◌}
 use Rattle.tqd_base.specs.declared.limits.TheConstants.{TREE_MAX}
 use Rattle.tree_checker.specs.Run.{job_of, taken_by}
 use Rattle.tree_checker.proofs.Feeding.{IsFedFrom}

@@ -1,11 +1,11 @@
-use Rattle.std.proofs.Common.{ℕ, ℤ, ◌≡◌, List, None, take, ap, sym, ◌∙◌, subst}
+use Rattle.std.proofs.Common.{ℕ, ℤ, List, take, ap, sym, ◌∙◌, subst}
 use Rattle.bound_tree.specs.Prices.{Fits, row_of}
 use Rattle.bound_tree.specs.LineHead.{prices_of}
 use Rattle.tree_checker.proofs.Leaves.{row_fits}
 use Rattle.tree_checker.proofs.leaf.empty_fault.Goals as goal
 
-pub value_free_in-value-requires-clause-fits : goal.value_free_in-value-requires-clause-fits
-value_free_in-value-requires-clause-fits c =
+pub value_free_in-requires-clause-fits : goal.value_free_in-requires-clause-fits
+value_free_in-requires-clause-fits c =
     let job = c.args.job.now in
     let read = c.read_row.ensures in
     let prices = read.kept c.in_default.is in

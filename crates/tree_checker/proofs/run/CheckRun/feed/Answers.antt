@@ -1,10 +1,10 @@
-use Rattle.std.proofs.Common.{◌≡◌, ◌+◌, ◌-◌, ◌≤◌, ◌++◌, length, take, drop, sym, ◌∙◌, ap, subst, arith, length-drop}
+use Rattle.std.proofs.Common.{◌≡◌, ◌-◌, ◌++◌, length, take, drop, sym, ◌∙◌, subst, arith, length-drop}
 use Rattle.std.proofs.lemmas.List.{take_all}
 use Rattle.tqd_base.specs.World.{Bytes}
 use Rattle.tqd_instance.specs.declared.job.Job.{Job}
 use Rattle.tree_checker.specs.declared.rejection.Feed.TheVariants.{More, Rejected}
 use Rattle.tree_checker.specs.Verdict.{Progress, after_bytes}
-use Rattle.tree_checker.specs.Run.{job_of, taken_by, IsAt, AnswersPiece}
+use Rattle.tree_checker.specs.Run.{job_of, IsAt, AnswersPiece}
 use Rattle.tree_checker.proofs.Bytewise.{bytes_more}
 use Rattle.tree_checker.proofs.Runs.{run_stands, run_ended, run_goes_on}
 use Rattle.tree_checker.proofs.run.CheckRun.feed.Goals as goal

@@ -1,4 +1,4 @@
-use Rattle.std.proofs.Common.{ℕ, ◌≡◌, ◌+◌, ◌<◌, length, take, sym, ◌∙◌, ap, subst, arith}
+use Rattle.std.proofs.Common.{◌+◌, ◌<◌, length, take, sym, ◌∙◌, subst, arith}
 use Rattle.std.proofs.lemmas.List.{length-take-le}
 use Rattle.tree_checker.specs.declared.rejection.Why.TheVariants.{Trailing}
 use Rattle.tree_checker.specs.Verdict.{stopped}
@@ -13,7 +13,7 @@ returns-in-Ended-clause-at c = λ progress k.
     let is = sym c.due.ensures ∙ c.in-Ended.is in
     let bytes = take c.pass_over.result c.args.piece.now in
     subst (IsAt c.pass_over.new.self)
-    (sym (ended_stays run.judge.job.now run.lines run.line run.judge.due run.judge.plan run.judge.boxes progress c.in-Ended.field-0 bytes is k))
+    (sym (ended_stays run.judge.job.now run.lines run.line run.judge.due run.judge.plan run.judge.boxes run.judge.slots progress c.in-Ended.field-0 bytes is k))
     (c.pass_over.ensures.at (stopped c.in-Ended.field-0) is)
 
 pub returns-then-is_whole-clause-at : goal.returns-then-is_whole-clause-at
@@ -24,5 +24,5 @@ returns-then-is_whole-clause-at c = λ progress k.
     let bytes = take passed.result c.args.piece.now in
     let some : 0 < length bytes = omega (arith, length-take-le passed.result c.args.piece.now (omega (arith, passed.ensures.all)), passed.ensures.all, c.requires.some) in
     subst (IsAt passed.new.self)
-    (sym (whole_ends run.judge.job.now run.lines run.line run.judge.due run.judge.plan run.judge.boxes progress bytes (sym c.is_whole.ensures ∙ c.if-is_whole.true) k some))
+    (sym (whole_ends run.judge.job.now run.lines run.line run.judge.due run.judge.plan run.judge.boxes run.judge.slots progress bytes (sym c.is_whole.ensures ∙ c.if-is_whole.true) k some))
     (passed.ensures.at (stopped (record { line = run.lines + 1; why = Trailing })) c.end.ensures.due)

@@ -1,4 +1,4 @@
-use Rattle.std.proofs.Common.{ℕ, ◌≡◌, ◌++◌, take, sym, ◌∙◌, subst}
+use Rattle.std.proofs.Common.{◌++◌, take, sym, ◌∙◌, subst}
 use Rattle.tree_checker.specs.Run.{job_of, IsAt, KeepsProgress}
 use Rattle.tree_checker.proofs.Bytewise.{piece_ends, piece_kept}
 use Rattle.tree_checker.proofs.run.CheckRun.read.Goals as goal
@@ -18,5 +18,5 @@ returns-in-None-clause-at c = λ lines line phase k whole.
     let run = c.args.self.now in
     let job = run.judge.job.now in
     let piece = c.args.piece.now in
-    subst (KeepsProgress job run.lines c.add-in-None.new.self run.judge.due run.judge.plan run.judge.boxes) (sym (piece_kept job lines line phase piece whole (sym c.line_end.ensures.value ∙ c.in-None.is)))
+    subst (KeepsProgress job run.lines c.add-in-None.new.self run.judge.due run.judge.plan run.judge.boxes run.judge.slots) (sym (piece_kept job lines line phase piece whole (sym c.line_end.ensures.value ∙ c.in-None.is)))
     (k.0, c.add-in-None.ensures line k.1, k.2)

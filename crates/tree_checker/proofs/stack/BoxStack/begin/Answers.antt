@@ -1,9 +1,9 @@
-use Rattle.std.proofs.Common.{◌≡◌, ◌<◌, ◌≤◌, List, [], ◌∷◌, ◌++◌, refl, ap, sym, ◌∙◌, subst, arith, vec_len}
+use Rattle.std.proofs.Common.{◌≡◌, ◌<◌, List, [], ◌∷◌, ◌++◌, refl, ap, sym, ◌∙◌, subst, arith, vec_len}
 use Rattle.std.specs.Prelude.{reverse, vec_capacity}
 use Rattle.interval_box.specs.declared.boxes.IntervalBox.{IntervalBox}
-use Rattle.tree_checker.specs.Root.{root_of}
+use Rattle.bound_tree.specs.Root.{root_of}
 use Rattle.tree_checker.specs.Stack.{IsRoomy}
-use Rattle.tree_checker.proofs.Roots.{root_is, root_is_value}
+use Rattle.bound_tree.proofs.Roots.{root_is, root_is_value}
 use Rattle.tree_checker.proofs.Stacks.{pushed, roomy_root}
 use Rattle.tree_checker.proofs.stack.BoxStack.begin.Goals as goal
 

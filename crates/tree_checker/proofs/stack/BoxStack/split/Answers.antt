@@ -1,5 +1,5 @@
-use Rattle.std.proofs.Common.{ℕ, ◌≡◌, ◌<◌, ◌≤◌, ◌+◌, true, List, [], ◌∷◌, ◌++◌, length, ap, sym, ◌∙◌, subst, arith, vec_len}
-use Rattle.std.specs.Prelude.{reverse, vec_capacity, IsOk}
+use Rattle.std.proofs.Common.{ℕ, ◌≡◌, List, ◌∷◌, sym, ◌∙◌, subst, arith}
+use Rattle.std.specs.Prelude.{reverse, IsOk}
 use Rattle.interval_box.specs.declared.boxes.IntervalBox.{IntervalBox}
 use Rattle.interval_box.specs.Halves.{low_half, high_half}
 use Rattle.tree_checker.specs.Stack.{IsRoomy, IsSplitFirst}
