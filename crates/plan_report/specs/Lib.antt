@@ -3,7 +3,7 @@ pub mod Named
 pub mod PlanText
 pub mod NeedsText
 pub mod AnswerText
-pub mod Usage
+pub mod CostsText
 pub mod RowText
 pub mod OfferText
 pub mod TermText

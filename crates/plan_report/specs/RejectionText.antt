@@ -6,7 +6,7 @@ use Rattle.tqd_instance.specs.declared.standing.Standing.{Standing}
 use Rattle.tqd_instance.specs.declared.standing.Standing.TheVariants.{Feasible, Need, Stock, Gap, Winners}
 use Rattle.tree_checker.specs.declared.rejection.Rejection.{Rejection}
 use Rattle.tree_checker.specs.declared.rejection.Why.{Why}
-use Rattle.tree_checker.specs.declared.rejection.Why.TheVariants.{Header, PlanForm, PlanStanding, PlanCost, Line, SplitRange, RowLength, PriceRange, BoundWithoutPlan, BoundShort, EmptyFails, WinnersFit, EarlyEnd, Trailing}
+use Rattle.tree_checker.specs.declared.rejection.Why.TheVariants.{Header, PlanForm, PlanStanding, PlanCost, Line, SplitRange, RowSlot, RowLength, PriceRange, BoundWithoutPlan, BoundShort, EmptyFails, WinnersFit, EarlyEnd, Trailing}
 use Rattle.plan_report.specs.Lines.{line}
 
 -- why a plan is not feasible; a plan that is has a text too, which no checker brings about
@@ -25,6 +25,7 @@ reason (PlanStanding standing) = standing_reason standing
 reason (PlanCost said real) = codes "cost said " ++ decimal said ++ codes ", is " ++ decimal real
 reason Line = codes "bad line"
 reason SplitRange = codes "bad split"
+reason (RowSlot slot) = codes "bad row slot " ++ decimal slot
 reason (RowLength found wanted) = decimal found ++ codes " prices, wanted " ++ decimal wanted
 reason (PriceRange value) = codes "price out of range"
 reason BoundWithoutPlan = codes "bound without a plan"

@@ -1,7 +1,8 @@
 ghost use Rattle.std.specs.Prelude.{◌≡◌, IfOk};
-ghost use Rattle.plan_report.specs.AnswerText.{accepted_text, infeasible_text, summary_text};
+ghost use Rattle.plan_report.specs.AnswerText.{accepted_text, break_even_text, infeasible_text, summary_text};
 
 use crate::text::add_line;
+use break_even::CutAnswer;
 use money::{write_cost, write_count};
 use std::alloc::Global;
 use tqd_base::Memory;
@@ -47,5 +48,29 @@ pub fn summary_text(
     let cost = write_cost(alloc, cost)?;
     let mut text = Vec::new(alloc);
     add_line(&mut text, "made", &[&seed, &goods, &suppliers, &cost])?;
+    Ok(text)
+}
+
+/// The text for the least cut of a supplier's prices that lowers the least cost: the supplier's name, the cut in
+/// thousandths, and the least cost without it and with it; or `none` and the least cost where no cut lowers it. Costs are
+/// in millionths of the currency. Where no purchase is feasible the text is that of `infeasible_text`.
+#[tactic(auto, unfolding(crate::specs::AnswerText::break_even_text))]
+pub fn break_even_text(alloc: Global, name: &[u8], answer: CutAnswer) -> Result<Vec<u8>, Memory>
+    ensures { IfOk result (λ text. text.items ≡ break_even_text name.now answer) }
+{
+    let mut text = Vec::new(alloc);
+    match answer {
+        CutAnswer::NoPurchase => return infeasible_text(alloc),
+        CutAnswer::NoCut(before) => {
+            let before = write_cost(alloc, before)?;
+            add_line(&mut text, "break-even", &[name, b"none", &before])?;
+        }
+        CutAnswer::Cut { cut, before, after } => {
+            let cut = write_count(alloc, u128::from(cut))?;
+            let before = write_cost(alloc, before)?;
+            let after = write_cost(alloc, after)?;
+            add_line(&mut text, "break-even", &[name, &cut, &before, &after])?;
+        }
+    }
     Ok(text)
 }

@@ -49,6 +49,7 @@ fn add_reason(alloc: Global, text: &mut Vec<u8>, why: Why) -> Result<(), Memory>
         }
         Why::Line => add_word(text, "bad line"),
         Why::SplitRange => add_word(text, "bad split"),
+        Why::RowSlot { slot } => add_counted(alloc, text, "bad row slot ", slot),
         Why::RowLength { found, wanted } => {
             add_number(alloc, text, found)?;
             add_word(text, " prices, wanted ")?;

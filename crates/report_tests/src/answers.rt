@@ -6,9 +6,7 @@ ghost use Rattle.tqd_instance.specs.Feasible.{Feasible};
 
 use bom_explode::explode;
 use bom_reader::{Bill, BillFault, NameList, no_bill, read_bill, read_orders};
-use plan_report::{
-    accepted_text, infeasible_text, needs_text, plan_text, summary_text, usage_text,
-};
+use plan_report::{accepted_text, infeasible_text, needs_text, plan_text, summary_text};
 use std::alloc::Global;
 use std::process::Abort;
 use std::test::Fail;
@@ -17,13 +15,13 @@ use tqd_base::{Memory, Stop};
 use tqd_instance::{FeeRow, Job, JobParts, Plan, PriceRow, Standing};
 
 /// Prices of one unit in millionths: the supplier, the least total, the good, the price.
-type Prices = &'static [(u32, u64, u32, u64)];
+pub(crate) type Prices = &'static [(u32, u64, u32, u64)];
 
 /// One good at one supplier: 0.10 from 1, and 0.08 from 100.
 const STEPS: Prices = &[(0, 1, 0, 100_000), (0, 100, 0, 80_000)];
 
 /// Two goods at two suppliers, of which the first is cheaper from 150.
-const TWO: Prices = &[
+pub(crate) const TWO: Prices = &[
     (0, 1, 0, 1_000_000),
     (0, 1, 1, 2_000_000),
     (0, 150, 0, 900_000),
@@ -192,7 +190,7 @@ pub(crate) fn list_of(alloc: Global, names: &[&str]) -> Result<NameList, Memory>
 }
 
 /// The parts of a job without a fee.
-fn parts_of(
+pub(crate) fn parts_of(
     alloc: Global,
     suppliers: u32,
     needs: &[u64],
@@ -370,14 +368,4 @@ fn answers_of_one_line(rt: HostRuntime) {
             "made\t1\t2\t3\t1410.728160\n"
         )
     );
-}
-
-#[test]
-fn usage(rt: HostRuntime) {
-    let text = "usage: tqd solve ORDERS BILL OFFERS TERMS TREE [--workers N]
-       tqd check ORDERS BILL OFFERS TERMS TREE
-       tqd needs ORDERS BILL
-       tqd make SEED GOODS SUPPLIERS
-";
-    assert!(rt; is_text(usage_text(rt.alloc()), text));
 }

@@ -8,6 +8,8 @@ mod answers;
 #[cfg(test)]
 mod bills;
 #[cfg(test)]
+mod costs;
+#[cfg(test)]
 mod faults;
 #[cfg(test)]
 mod needs;

@@ -111,6 +111,41 @@ fn intervals_are_counted(rt: HostRuntime) {
     );
 }
 
+/// 64 suppliers of the first good. Another part at one of them brings none, and one that is no good none either.
+const SUPPLIERS: &str = "supplier,from,part,price
+1,1,x,1\n2,1,x,1\n3,1,x,1\n4,1,x,1\n5,1,x,1\n6,1,x,1\n7,1,x,1\n8,1,x,1
+9,1,x,1\n10,1,x,1\n11,1,x,1\n12,1,x,1\n13,1,x,1\n14,1,x,1\n15,1,x,1\n16,1,x,1
+17,1,x,1\n18,1,x,1\n19,1,x,1\n20,1,x,1\n21,1,x,1\n22,1,x,1\n23,1,x,1\n24,1,x,1
+25,1,x,1\n26,1,x,1\n27,1,x,1\n28,1,x,1\n29,1,x,1\n30,1,x,1\n31,1,x,1\n32,1,x,1
+33,1,x,1\n34,1,x,1\n35,1,x,1\n36,1,x,1\n37,1,x,1\n38,1,x,1\n39,1,x,1\n40,1,x,1
+41,1,x,1\n42,1,x,1\n43,1,x,1\n44,1,x,1\n45,1,x,1\n46,1,x,1\n47,1,x,1\n48,1,x,1
+49,1,x,1\n50,1,x,1\n51,1,x,1\n52,1,x,1\n53,1,x,1\n54,1,x,1\n55,1,x,1\n56,1,x,1
+57,1,x,1\n58,1,x,1\n59,1,x,1\n60,1,x,1\n61,1,x,1\n62,1,x,1\n63,1,x,1\n64,1,x,1
+1,1,y,1\n65,1,z,1
+";
+
+/// The same, and one supplier more.
+const MORE_SUPPLIERS: &str = "supplier,from,part,price
+1,1,x,1\n2,1,x,1\n3,1,x,1\n4,1,x,1\n5,1,x,1\n6,1,x,1\n7,1,x,1\n8,1,x,1
+9,1,x,1\n10,1,x,1\n11,1,x,1\n12,1,x,1\n13,1,x,1\n14,1,x,1\n15,1,x,1\n16,1,x,1
+17,1,x,1\n18,1,x,1\n19,1,x,1\n20,1,x,1\n21,1,x,1\n22,1,x,1\n23,1,x,1\n24,1,x,1
+25,1,x,1\n26,1,x,1\n27,1,x,1\n28,1,x,1\n29,1,x,1\n30,1,x,1\n31,1,x,1\n32,1,x,1
+33,1,x,1\n34,1,x,1\n35,1,x,1\n36,1,x,1\n37,1,x,1\n38,1,x,1\n39,1,x,1\n40,1,x,1
+41,1,x,1\n42,1,x,1\n43,1,x,1\n44,1,x,1\n45,1,x,1\n46,1,x,1\n47,1,x,1\n48,1,x,1
+49,1,x,1\n50,1,x,1\n51,1,x,1\n52,1,x,1\n53,1,x,1\n54,1,x,1\n55,1,x,1\n56,1,x,1
+57,1,x,1\n58,1,x,1\n59,1,x,1\n60,1,x,1\n61,1,x,1\n62,1,x,1\n63,1,x,1\n64,1,x,1
+1,1,y,1\n65,1,z,1\n65,1,y,1
+";
+
+#[test]
+fn suppliers_are_counted(rt: HostRuntime) {
+    assert!(rt; said_of(rt.alloc(), SUPPLIERS, "64") == Some((64, Some(63), true, false)));
+    assert_eq!(rt;
+        fault_of(rt.alloc(), MORE_SUPPLIERS),
+        Some(OfferFault::TooManySuppliers { at: 68 })
+    );
+}
+
 /// Files, and the first fault of each.
 const FAULTS: [(&str, OfferFault); 9] = [
     (

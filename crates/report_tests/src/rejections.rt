@@ -80,6 +80,14 @@ fn rejections_with_values(rt: HostRuntime) {
             },
             "rejected\t5\t4 prices, wanted 5\n",
         ),
+        (5, Why::RowSlot { slot: 1 }, "rejected\t5\tbad row slot 1\n"),
+        (
+            4,
+            Why::RowSlot {
+                slot: 99_999_999_999_999_999_999_999,
+            },
+            "rejected\t4\tbad row slot 99999999999999999999999\n",
+        ),
     ] {
         let printed = rejection_text(rt.alloc(), &Rejection { line, why });
         assert!(rt; is_text(printed, text), "{text}");
