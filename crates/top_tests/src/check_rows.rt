@@ -15,7 +15,35 @@ const NO_TERMS: &str = "kind,supplier,part,low,high\n";
 const TREE: &str = "tqd-tree 1\nplan 8000000 1\nbuy 0 0 100\nbound 80000 0 0\n";
 
 /// Trees on an order of 100 units: those that are right, and each with something wrong.
-pub(crate) const TREES: [Row; 13] = [
+pub(crate) const TREES: [Row; 15] = [
+    Row {
+        files: &[
+            ("o", HUNDRED),
+            ("f", OFFERS),
+            ("t", NO_TERMS),
+            (
+                "tree",
+                "tqd-tree 2\nplan 8000000 1\nbuy 0 0 100\nsplit 0 0\nrow 0 80000 0 0\nbound 0\nbound 0\n",
+            ),
+        ],
+        lines: &["check o - f t tree"],
+        status: 0,
+        output: "accepted\t8.000000\n",
+    },
+    Row {
+        files: &[
+            ("o", HUNDRED),
+            ("f", OFFERS),
+            ("t", NO_TERMS),
+            (
+                "tree",
+                "tqd-tree 2\nplan 8000000 1\nbuy 0 0 100\nrow 0 80000 0 0\nbound 1\n",
+            ),
+        ],
+        lines: &["check o - f t tree"],
+        status: 4,
+        output: "rejected\t5\tbad row slot 1\n",
+    },
     Row {
         files: &[
             ("o", HUNDRED),

@@ -88,7 +88,7 @@ pub(crate) const FAILING: [FailingRow; 13] = [
         line: "solve o - f - tree",
         status: 6,
         output: "",
-        tree: "tqd-tree 1\nplan 80",
+        tree: "tqd-tree 2\nplan 80",
     },
     FailingRow {
         call: DeskCall::Put,
@@ -97,7 +97,7 @@ pub(crate) const FAILING: [FailingRow; 13] = [
         line: "solve o - f - tree",
         status: 6,
         output: "",
-        tree: "tqd-tree 1\nplan 8000000 1\nbuy 0 ",
+        tree: "tqd-tree 2\nplan 8000000 1\nbuy 0 ",
     },
     FailingRow {
         call: DeskCall::Open,

@@ -4,7 +4,6 @@ ghost use Rattle.tqd_base.specs.World.{IsIdle};
 ghost use Rattle.tqd_base.specs.SureState.{sure_state};
 
 use crate::runs::{empty_desk, ran, set, words_of};
-use plan_report::usage_text;
 use search_run::NoGate;
 use std::alloc::Global;
 use std::process::Abort;
@@ -12,7 +11,7 @@ use std::sync::Wait;
 use std::test::Fail;
 use std::thread::Threads;
 use tqd_base::{DeskCall, SureDesk};
-use tqd_top::{run, run_plain};
+use tqd_top::{run, run_plain, usage_text};
 
 // Runs a line on a desk with these orders `o` and this file `f`, by both calls.
 fn check_files<R: Threads + Wait + Abort + Sync>(
@@ -126,7 +125,7 @@ fn check_begun<R: Threads + Wait + Abort + Sync>(
     );
     let tree = desk.file(name).unwrap_or(b"");
     assert!(rt;
-        tree.starts_with(b"tqd-tree 1\nplan 8000000 1\nbuy 0 0 100\n"),
+        tree.starts_with(b"tqd-tree 2\nplan 8000000 1\nbuy 0 0 100\n"),
         "at {name}"
     );
     assert_eq!(rt; desk.output().is_empty(), status == 6, "at {name}");

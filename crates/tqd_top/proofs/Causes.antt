@@ -1,21 +1,44 @@
--- From what was found and printed to the cause of the answer.
+-- From the reply and what was printed to the cause of the answer.
 use Rattle.std.proofs.Common.{ℕ, ◌≡◌, Bool, List, Option, None, Some, take, sym, ◌∙◌, subst, inl, inr}
 use Rattle.std.specs.Prelude.{Ok, Err}
 use Rattle.tqd_base.specs.World.{World, State, Name, Bytes, IsIdle, NeverFall, print, set_file}
 use Rattle.plan_report.specs.declared.file.InputFile.{InputFile}
 use Rattle.plan_report.specs.declared.file.InputFile.TheVariants.{Orders, Bill, Offers, Terms, Tree as TreeFile}
-use Rattle.tqd_top.specs.declared.answer.Target.TheVariants.{Tree}
+use Rattle.tqd_top.specs.declared.answer.Target.TheVariants.{Tree, Out}
 use Rattle.tqd_top.specs.declared.answer.Answer.{Answer}
 use Rattle.tqd_top.specs.declared.answer.Answer.TheVariants.{Solved, Infeasible, Accepted, AcceptedNone, Rejected, Listed, Words, BadInput, ReadFault, WriteFault, Memory}
-use Rattle.tqd_top.specs.declared.answer.Found.{Found}
-use Rattle.tqd_top.specs.declared.answer.Lost.TheVariants.{Tree as LostTree, Memory as WantsMemory}
+use Rattle.tqd_top.specs.declared.answer.Reply.{Reply}
+use Rattle.tqd_top.specs.declared.answer.NoReply.TheVariants.{Tree as NoTree, Memory as WantsMemory}
 use Rattle.tqd_top.specs.Words.{Asked, FilesNamed, ToCheck, ToMake, ToNeed, ToSolve}
 use Rattle.tqd_top.specs.Reads.{FailsAt}
-use Rattle.tqd_top.specs.Unread.{FailsAtGiven, IsUnread, IsUnreadBill, IsUnreadWithTree}
-use Rattle.tqd_top.specs.Saves.{IsCutShort, saved}
-use Rattle.tqd_top.specs.Answers.{FailsOnlyInputs, HasCause, IsCutOff, IsFound, IsUnreadBy}
-use Rattle.tqd_top.specs.Runs.{Finds, Grows, PrintGives}
+use Rattle.tqd_top.specs.Unread.{FailsAtGiven, IsUnread, IsUnreadBill, IsUnreadWithTree, IsUnreadBy}
+use Rattle.tqd_top.specs.SavedTree.{IsCutShort, saved}
+use Rattle.tqd_top.specs.Causes.{FailsOnlyInputs}
+use Rattle.tqd_top.specs.Output.{IsWant, IsWriteFault, IsCutOff, IsReply}
+use Rattle.tqd_top.specs.Inner.Runs.{Replies, Grows, PrintGives}
 use Rattle.tqd_top.proofs.Readings.{rose_before, rose_later}
+
+-- the tree was saved, the output grew by the text of the answer, and nothing else of the world changed
+pub record IsPrinted (absent_is_empty : Bool) (old new : State) (words : List Name) (answer : Answer) : Type 0 where
+  pub text : Bytes
+  pub between : World
+  pub reply : IsReply absent_is_empty old new between words answer text
+  pub world : new.world ≡ print between text
+
+-- each answer with its cause, and what was printed and saved
+abbrev pub HasCause : Bool → State → State → List Name → Answer → Type 0
+HasCause absent_is_empty old new words (Solved plan amount) = IsPrinted absent_is_empty old new words (Solved plan amount)
+HasCause absent_is_empty old new words Infeasible = IsPrinted absent_is_empty old new words Infeasible
+HasCause absent_is_empty old new words (Accepted cost) = IsPrinted absent_is_empty old new words (Accepted cost)
+HasCause absent_is_empty old new words AcceptedNone = IsPrinted absent_is_empty old new words AcceptedNone
+HasCause absent_is_empty old new words (Rejected rejection) = IsPrinted absent_is_empty old new words (Rejected rejection)
+HasCause absent_is_empty old new words Listed = IsPrinted absent_is_empty old new words Listed
+HasCause absent_is_empty old new words Words = IsPrinted absent_is_empty old new words Words
+HasCause absent_is_empty old new words (BadInput fault) = IsPrinted absent_is_empty old new words (BadInput fault)
+HasCause absent_is_empty old new words (ReadFault file) = IsPrinted absent_is_empty old new words (ReadFault file)
+HasCause absent_is_empty old new words (WriteFault Out) = IsWriteFault absent_is_empty old new words Out
+HasCause absent_is_empty old new words (WriteFault Tree) = IsWriteFault absent_is_empty old new words Tree
+HasCause absent_is_empty old new words Memory = IsWant absent_is_empty old new words
 
 -- a reading fault that was found stands after the printing
 fails_still : (old mid new : State) (name : Name) → NeverFall mid.faults new.faults → new.failed_last ≡ mid.failed_last → FailsAt old mid name → FailsAt old new name
@@ -59,60 +82,60 @@ unread_still a old mid new (ToNeed orders bill) file falls kept f = bill_still a
 unread_still a old mid new (ToMake seed goods suppliers) file falls kept f = f
 
 -- the rest of what was found speaks of the state before
-found_still : (a : Bool) (old mid new : State) (between : World) (words : List Name) (answer : Answer) (text : Bytes) → NeverFall mid.faults new.faults → new.failed_last ≡ mid.failed_last
-    → IsFound a old mid between words answer text → IsFound a old new between words answer text
-found_still a old mid new between words (Solved plan amount) text falls kept f = f
-found_still a old mid new between words Infeasible text falls kept f = f
-found_still a old mid new between words (Accepted cost) text falls kept f = f
-found_still a old mid new between words AcceptedNone text falls kept f = f
-found_still a old mid new between words (Rejected rejection) text falls kept f = f
-found_still a old mid new between words Listed text falls kept f = f
-found_still a old mid new between words Words text falls kept f = f
-found_still a old mid new between words (BadInput fault) text falls kept f = f
-found_still a old mid new between words (ReadFault file) text falls kept f =
+reply_still : (a : Bool) (old mid new : State) (between : World) (words : List Name) (answer : Answer) (text : Bytes) → NeverFall mid.faults new.faults → new.failed_last ≡ mid.failed_last
+    → IsReply a old mid between words answer text → IsReply a old new between words answer text
+reply_still a old mid new between words (Solved plan amount) text falls kept f = f
+reply_still a old mid new between words Infeasible text falls kept f = f
+reply_still a old mid new between words (Accepted cost) text falls kept f = f
+reply_still a old mid new between words AcceptedNone text falls kept f = f
+reply_still a old mid new between words (Rejected rejection) text falls kept f = f
+reply_still a old mid new between words Listed text falls kept f = f
+reply_still a old mid new between words Words text falls kept f = f
+reply_still a old mid new between words (BadInput fault) text falls kept f = f
+reply_still a old mid new between words (ReadFault file) text falls kept f =
     (f.0, record { command = f.1.command; words_are = f.1.words_are; unread = unread_still a old mid new f.1.command file falls kept f.1.unread; text_is = f.1.text_is })
-found_still a old mid new between words (WriteFault target) text falls kept f = absurd f
-found_still a old mid new between words Memory text falls kept f = absurd f
+reply_still a old mid new between words (WriteFault target) text falls kept f = absurd f
+reply_still a old mid new between words Memory text falls kept f = absurd f
 
-printed : (a : Bool) (old new : State) (between : World) (words : List Name) (answer : Answer) (text : Bytes) → IsFound a old new between words answer text
+printed : (a : Bool) (old new : State) (between : World) (words : List Name) (answer : Answer) (text : Bytes) → IsReply a old new between words answer text
     → new.world ≡ print between text → HasCause a old new words answer
-printed a old new between words (Solved plan amount) text f w = record { text = text; between = between; found = f; world = w }
-printed a old new between words Infeasible text f w = record { text = text; between = between; found = f; world = w }
-printed a old new between words (Accepted cost) text f w = record { text = text; between = between; found = f; world = w }
-printed a old new between words AcceptedNone text f w = record { text = text; between = between; found = f; world = w }
-printed a old new between words (Rejected rejection) text f w = record { text = text; between = between; found = f; world = w }
-printed a old new between words Listed text f w = record { text = text; between = between; found = f; world = w }
-printed a old new between words Words text f w = record { text = text; between = between; found = f; world = w }
-printed a old new between words (BadInput fault) text f w = record { text = text; between = between; found = f; world = w }
-printed a old new between words (ReadFault file) text f w = record { text = text; between = between; found = f; world = w }
+printed a old new between words (Solved plan amount) text f w = record { text = text; between = between; reply = f; world = w }
+printed a old new between words Infeasible text f w = record { text = text; between = between; reply = f; world = w }
+printed a old new between words (Accepted cost) text f w = record { text = text; between = between; reply = f; world = w }
+printed a old new between words AcceptedNone text f w = record { text = text; between = between; reply = f; world = w }
+printed a old new between words (Rejected rejection) text f w = record { text = text; between = between; reply = f; world = w }
+printed a old new between words Listed text f w = record { text = text; between = between; reply = f; world = w }
+printed a old new between words Words text f w = record { text = text; between = between; reply = f; world = w }
+printed a old new between words (BadInput fault) text f w = record { text = text; between = between; reply = f; world = w }
+printed a old new between words (ReadFault file) text f w = record { text = text; between = between; reply = f; world = w }
 printed a old new between words (WriteFault target) text f w = absurd f
 printed a old new between words Memory text f w = absurd f
 
-cut_off : (a : Bool) (old mid new : State) (words : List Name) (answer : Answer) (text : Bytes) → IsFound a old new mid.world words answer text → (count : ℕ) → Grows mid new text count → IsCutOff a old new words
+cut_off : (a : Bool) (old mid new : State) (words : List Name) (answer : Answer) (text : Bytes) → IsReply a old new mid.world words answer text → (count : ℕ) → Grows mid new text count → IsCutOff a old new words
 cut_off a old mid new words answer text f count g =
-    record { answer = answer; text = text; between = mid.world; found = f; count = count; within = g.within; world = g.world }
+    record { answer = answer; text = text; between = mid.world; reply = f; count = count; within = g.within; world = g.world }
 
 -- the cause of an answer that was found, and then printed or not
-pub cause_of : (a : Bool) (old mid new : State) (words : List Name) (found : Found) (result : Answer) → Finds a old mid words (Ok found)
-    → PrintGives mid new found.answer found.text.items result → HasCause a old new words result
-cause_of a old mid new words found result finds p =
-    let still = found_still a old mid new mid.world words found.answer found.text.items p.never_fall p.kept finds.gives in
+pub cause_of : (a : Bool) (old mid new : State) (words : List Name) (reply : Reply) (result : Answer) → Replies a old mid words (Ok reply)
+    → PrintGives mid new reply.answer reply.text.items result → HasCause a old new words result
+cause_of a old mid new words reply result replies p =
+    let still = reply_still a old mid new mid.world words reply.answer reply.text.items p.never_fall p.kept replies.gives in
     elim p.cases [
-      | inl whole ↦ subst (HasCause a old new words) (sym whole.0) (printed a old new mid.world words found.answer found.text.items still whole.1.world)
+      | inl whole ↦ subst (HasCause a old new words) (sym whole.0) (printed a old new mid.world words reply.answer reply.text.items still whole.1.world)
       | inr cut ↦ elim cut [
         | inl fault ↦ subst (HasCause a old new words) (sym fault.0) (
-          rose_later old.faults.printing mid.faults.printing new.faults.printing finds.quiet.never_fall.printing fault.1,
-          cut_off a old mid new words found.answer found.text.items still fault.2.0 fault.2.1,
+          rose_later old.faults.printing mid.faults.printing new.faults.printing replies.quiet.never_fall.printing fault.1,
+          cut_off a old mid new words reply.answer reply.text.items still fault.2.0 fault.2.1,
         )
-        | inr memory ↦ subst (HasCause a old new words) (sym memory.0) (inr (inr (cut_off a old mid new words found.answer found.text.items still memory.1.0 memory.1.1)))
+        | inr memory ↦ subst (HasCause a old new words) (sym memory.0) (inr (inr (cut_off a old mid new words reply.answer reply.text.items still memory.1.0 memory.1.1)))
       ]
     ]
 
-pub cause_of_tree : (a : Bool) (old new : State) (words : List Name) → Finds a old new words (Err LostTree) → HasCause a old new words (WriteFault Tree)
-cause_of_tree a old new words finds = finds.gives
+pub cause_of_tree : (a : Bool) (old new : State) (words : List Name) → Replies a old new words (Err NoTree) → HasCause a old new words (WriteFault Tree)
+cause_of_tree a old new words replies = replies.gives
 
-pub cause_of_memory : (a : Bool) (old new : State) (words : List Name) → Finds a old new words (Err WantsMemory) → HasCause a old new words Memory
-cause_of_memory a old new words finds = elim finds.gives [ inl same ↦ inl same | inr lost ↦ inr (inl lost) ]
+pub cause_of_memory : (a : Bool) (old new : State) (words : List Name) → Replies a old new words (Err WantsMemory) → HasCause a old new words Memory
+cause_of_memory a old new words replies = elim replies.gives [ inl same ↦ inl same | inr lost ↦ inr (inl lost) ]
 
 pub inputs_of : (old mid new : State) (words : List Name) → FailsOnlyInputs old mid words → new.failed_last ≡ mid.failed_last → FailsOnlyInputs old new words
 inputs_of old mid new words q kept = λ told. elim (q told) [
@@ -138,18 +161,18 @@ idle_cut : (old new : World) (name : Name) (text : Bytes) → IsCutShort old new
 idle_cut old new name text (inl same) idle = subst IsIdle (sym same) idle
 idle_cut old new name text (inr cut) idle = subst IsIdle (sym cut.2) (idle_file old name (take cut.0 text) idle)
 
-idle_found : (a : Bool) (old new : State) (between : World) (words : List Name) (answer : Answer) (text : Bytes) → IsFound a old new between words answer text → IsIdle old.world → IsIdle between
-idle_found a old new between words (Solved plan amount) text f idle = subst IsIdle (sym f.solved.saves) (idle_saved old.world f.tree f.solved.certificate idle)
-idle_found a old new between words Infeasible text f idle = subst IsIdle (sym f.solved.saves) (idle_saved old.world f.tree f.solved.certificate idle)
-idle_found a old new between words (Accepted cost) text f idle = subst IsIdle (sym f.0) idle
-idle_found a old new between words AcceptedNone text f idle = subst IsIdle (sym f.0) idle
-idle_found a old new between words (Rejected rejection) text f idle = subst IsIdle (sym f.0) idle
-idle_found a old new between words Listed text f idle = subst IsIdle (sym f.0) idle
-idle_found a old new between words Words text f idle = subst IsIdle (sym f.0) idle
-idle_found a old new between words (BadInput fault) text f idle = subst IsIdle (sym f.0) idle
-idle_found a old new between words (ReadFault file) text f idle = subst IsIdle (sym f.0) idle
-idle_found a old new between words (WriteFault target) text f idle = absurd f
-idle_found a old new between words Memory text f idle = absurd f
+idle_reply : (a : Bool) (old new : State) (between : World) (words : List Name) (answer : Answer) (text : Bytes) → IsReply a old new between words answer text → IsIdle old.world → IsIdle between
+idle_reply a old new between words (Solved plan amount) text f idle = subst IsIdle (sym f.solved.saves) (idle_saved old.world f.tree f.solved.certificate idle)
+idle_reply a old new between words Infeasible text f idle = subst IsIdle (sym f.solved.saves) (idle_saved old.world f.tree f.solved.certificate idle)
+idle_reply a old new between words (Accepted cost) text f idle = subst IsIdle (sym f.0) idle
+idle_reply a old new between words AcceptedNone text f idle = subst IsIdle (sym f.0) idle
+idle_reply a old new between words (Rejected rejection) text f idle = subst IsIdle (sym f.0) idle
+idle_reply a old new between words Listed text f idle = subst IsIdle (sym f.0) idle
+idle_reply a old new between words Words text f idle = subst IsIdle (sym f.0) idle
+idle_reply a old new between words (BadInput fault) text f idle = subst IsIdle (sym f.0) idle
+idle_reply a old new between words (ReadFault file) text f idle = subst IsIdle (sym f.0) idle
+idle_reply a old new between words (WriteFault target) text f idle = absurd f
+idle_reply a old new between words Memory text f idle = absurd f
 
 idle_answer : (mid new : State) (answer result : Answer) (text : Bytes) → PrintGives mid new answer text result → IsIdle mid.world → IsIdle new.world
 idle_answer mid new answer result text p idle = elim p.cases [
@@ -160,18 +183,18 @@ idle_answer mid new answer result text p idle = elim p.cases [
   ]
 ]
 
-pub idle_after : (a : Bool) (old mid new : State) (words : List Name) (found : Found) (result : Answer) → Finds a old mid words (Ok found)
-    → PrintGives mid new found.answer found.text.items result → IsIdle old.world → IsIdle new.world
-idle_after a old mid new words found result finds p idle =
-    idle_answer mid new found.answer result found.text.items p (idle_found a old mid mid.world words found.answer found.text.items finds.gives idle)
+pub idle_after : (a : Bool) (old mid new : State) (words : List Name) (reply : Reply) (result : Answer) → Replies a old mid words (Ok reply)
+    → PrintGives mid new reply.answer reply.text.items result → IsIdle old.world → IsIdle new.world
+idle_after a old mid new words reply result replies p idle =
+    idle_answer mid new reply.answer result reply.text.items p (idle_reply a old mid mid.world words reply.answer reply.text.items replies.gives idle)
 
-pub idle_tree : (a : Bool) (old new : State) (words : List Name) → Finds a old new words (Err LostTree) → IsIdle old.world → IsIdle new.world
-idle_tree a old new words finds idle =
-    let lost = finds.gives.1.lost in
+pub idle_tree : (a : Bool) (old new : State) (words : List Name) → Replies a old new words (Err NoTree) → IsIdle old.world → IsIdle new.world
+idle_tree a old new words replies idle =
+    let lost = replies.gives.1.cut in
     idle_cut old.world new.world lost.cut.0 lost.certificate lost.cut.2 idle
 
-pub idle_memory : (a : Bool) (old new : State) (words : List Name) → Finds a old new words (Err WantsMemory) → IsIdle old.world → IsIdle new.world
-idle_memory a old new words finds idle = elim finds.gives [
+pub idle_memory : (a : Bool) (old new : State) (words : List Name) → Replies a old new words (Err WantsMemory) → IsIdle old.world → IsIdle new.world
+idle_memory a old new words replies idle = elim replies.gives [
   | inl same ↦ subst IsIdle (sym same) idle
-  | inr lost ↦ idle_cut old.world new.world lost.lost.cut.0 lost.lost.certificate lost.lost.cut.2 idle
+  | inr lost ↦ idle_cut old.world new.world lost.cut.cut.0 lost.cut.certificate lost.cut.cut.2 idle
 ]

@@ -15,11 +15,11 @@ use Rattle.tree_checker.specs.declared.checking.CheckStop.TheVariants.{Fault, Si
 use Rattle.tree_checker.specs.CheckFrom.{CheckFromGives, IsTooLong, IsVerdictOf}
 use Rattle.plan_report.specs.declared.file.InputFile.TheVariants.{Tree}
 use Rattle.plan_report.specs.declared.fault.FileFault.TheVariants.{Size}
-use Rattle.tqd_top.specs.declared.halt.Halt.{Halt}
-use Rattle.tqd_top.specs.declared.halt.Halt.TheVariants.{Bad, Unread, Memory}
+use Rattle.tqd_top.specs.declared.no_value.NoValue.{NoValue}
+use Rattle.tqd_top.specs.declared.no_value.NoValue.TheVariants.{Bad, Unread, Memory}
 use Rattle.tqd_top.specs.JobOf.{plainly}
-use Rattle.tqd_top.specs.Steps.{HaltsAt}
-use Rattle.tqd_top.specs.CheckAnswer.{CheckFileGives, CheckSlotGives, OpenTreeGives, SlotAnswers, StopHalts}
+use Rattle.tqd_top.specs.Inner.Steps.{StopsAt}
+use Rattle.tqd_top.specs.Inner.Checking.{CheckFileGives, CheckSlotGives, OpenTreeGives, SlotAnswers, CheckStopGives}
 use Rattle.tqd_top.proofs.Readings.{falls_never, rose_before, rose_later}
 
 pub reads_some : (s : Option Slot) → Reads s → IsSome s
@@ -34,7 +34,7 @@ closes_by old new slot (Err Failed) c = c.2
 closes_by old new slot (Err NoMemory) c = absurd c
 
 -- what was taken from a slot that is closed then
-ended : (job : Job) (old mid new : State) (slot : ℕ) (r : Result Verdict Halt) → Drains old mid slot → Closes mid new slot → SlotAnswers job old new slot r → CheckSlotGives job old new slot r
+ended : (job : Job) (old mid new : State) (slot : ℕ) (r : Result Verdict NoValue) → Drains old mid slot → Closes mid new slot → SlotAnswers job old new slot r → CheckSlotGives job old new slot r
 ended job old mid new slot r drains closes answer = record {
   world = closes.world ∙ drains.others;
   never_fall = falls_never _ mid.faults _ drains.never_fall closes.never_fall;
@@ -57,8 +57,8 @@ slot_failed job old mid new slot c g closed =
       rose_before old.faults.reading mid.faults.reading new.faults.reading g.answer.1 closes.never_fall.reading,
     )
 
-slot_long : (job : Job) (old mid new : State) (slot : ℕ) (halt : Halt) (c : Result (Unit {0}) DeskStop) → CheckFromGives job old mid slot (Err TooLong) → CloseGives mid new slot c
-    → HaltsAt (plainly (Size Tree)) halt → CheckSlotGives job old new slot (Err halt)
+slot_long : (job : Job) (old mid new : State) (slot : ℕ) (halt : NoValue) (c : Result (Unit {0}) DeskStop) → CheckFromGives job old mid slot (Err TooLong) → CloseGives mid new slot c
+    → StopsAt (plainly (Size Tree)) halt → CheckSlotGives job old new slot (Err halt)
 slot_long job old mid new slot (Bad fault text) c g closed h =
     let closes = closes_by mid new slot c closed in
     ended job old mid new slot (Err (Bad fault text)) g.drains closes (closes.kept ∙ g.answer.0, sym h, g.answer.1)
@@ -73,8 +73,8 @@ slot_wanting job old mid new slot c g closed =
     let closes = closes_by mid new slot c closed in
     ended job old mid new slot (Err Memory) g.drains closes (closes.kept ∙ g.answer.kept)
 
-pub slot_ended : (job : Job) (old mid new : State) (slot : ℕ) (checked : Result Verdict CheckStop) (c : Result (Unit {0}) DeskStop) (r : Result Verdict Halt)
-    → CheckFromGives job old mid slot checked → CloseGives mid new slot c → StopHalts checked r → CheckSlotGives job old new slot r
+pub slot_ended : (job : Job) (old mid new : State) (slot : ℕ) (checked : Result Verdict CheckStop) (c : Result (Unit {0}) DeskStop) (r : Result Verdict NoValue)
+    → CheckFromGives job old mid slot checked → CloseGives mid new slot c → CheckStopGives checked r → CheckSlotGives job old new slot r
 slot_ended job old mid new slot (Ok shown) c r g closed h = subst (CheckSlotGives job old new slot) (sym h) (slot_checked job old mid new slot shown c g closed)
 slot_ended job old mid new slot (Err Fault) c r g closed h = subst (CheckSlotGives job old new slot) (sym h) (slot_failed job old mid new slot c g closed)
 slot_ended job old mid new slot (Err TooLong) c (Ok shown) g closed h = absurd h
@@ -106,7 +106,7 @@ closed_world : (a : Bool) (old mid new : State) (name : Name) (slot : ℕ) → O
 closed_world a old mid new name slot o w =
     w ∙ ap (λ (v : World). set_slot v slot None) o.world ∙ set_slot-set_slot old.world slot _ None ∙ set_slot-same old.world slot None o.fresh
 
-closed_rests : (a : Bool) (job : Job) (old mid new : State) (name : Name) (slot : ℕ) (r : Result Verdict Halt) → Opens a old mid name slot → CheckSlotGives job mid new slot r
+closed_rests : (a : Bool) (job : Job) (old mid new : State) (name : Name) (slot : ℕ) (r : Result Verdict NoValue) → Opens a old mid name slot → CheckSlotGives job mid new slot r
     → new.failed_last ≡ mid.failed_last → Rests old new
 closed_rests a job old mid new name slot r o c kept = record {
   world = closed_world a old mid new name slot o c.world;
@@ -114,7 +114,7 @@ closed_rests a job old mid new name slot r o c kept = record {
   never_fall = falls_never _ mid.faults _ o.never_fall c.never_fall;
 }
 
-pub file_checked : (a : Bool) (job : Job) (old mid new : State) (name : Name) (slot : ℕ) (r : Result Verdict Halt) → Opens a old mid name slot → CheckSlotGives job mid new slot r
+pub file_checked : (a : Bool) (job : Job) (old mid new : State) (name : Name) (slot : ℕ) (r : Result Verdict NoValue) → Opens a old mid name slot → CheckSlotGives job mid new slot r
     → CheckFileGives a job old new name r
 file_checked a job old mid new name slot (Ok shown) o c =
     let of = subst (λ (left : Option Bytes). IsVerdictOf job left shown) (opened_left a old mid name slot o) c.answer.1 in (
@@ -138,7 +138,7 @@ file_checked a job old mid new name slot (Err (Unread failed)) o c = (
 )
 file_checked a job old mid new name slot (Err Memory) o c = closed_rests a job old mid new name slot (Err Memory) o c c.answer
 
-pub file_unopened : (a : Bool) (job : Job) (old new : State) (name : Name) (halt : Halt) → OpenTreeGives a old new name (Err halt) → CheckFileGives a job old new name (Err halt)
+pub file_unopened : (a : Bool) (job : Job) (old new : State) (name : Name) (halt : NoValue) → OpenTreeGives a old new name (Err halt) → CheckFileGives a job old new name (Err halt)
 file_unopened a job old new name (Bad fault text) o = absurd o
 file_unopened a job old new name (Unread failed) o = o
 file_unopened a job old new name Memory o = o

@@ -10,12 +10,13 @@ use Rattle.tqd_top.specs.declared.answer.Answer.TheVariants.{Solved, Infeasible,
 use Rattle.tqd_top.specs.declared.reading.NeedsRead.{NeedsRead}
 use Rattle.tqd_top.specs.declared.reading.JobRead.{JobRead}
 use Rattle.tqd_top.specs.Words.{Asked, FilesNamed, IsCheck, IsMake, IsNeeds, IsNoForm, IsSolve, ToCheck, ToMake, ToNeed, ToSolve, command_of}
-use Rattle.tqd_top.specs.JobOf.{JobOf, NeedsOf, Outcome, Told}
-use Rattle.tqd_top.specs.Unread.{IsUnread, IsUnreadBill, IsUnreadWithTree}
-use Rattle.tqd_top.specs.Answers.{HasCause, IsChecked, IsFaultOf, IsJobOutcome, IsNeedsOutcome, IsUnreadBy}
+use Rattle.tqd_top.specs.JobOf.{JobOf, NeedsOf, Outcome, FaultLine, IsJobOutcome, IsNeedsOutcome}
+use Rattle.tqd_top.specs.Unread.{IsUnread, IsUnreadBill, IsUnreadWithTree, IsUnreadBy}
+use Rattle.tqd_top.proofs.Causes.{HasCause}
+use Rattle.tqd_top.specs.Causes.{IsChecked, IsFaultOf}
 use Rattle.tqd_top.specs.Complete.{IsAnswerToCheck, IsAnswerToMake, IsAnswerToNeeds, IsAnswerToNoForm, IsAnswerToSolve, IsAnswerToText, IsFaultless}
 use Rattle.tqd_top.specs.Reads.{ReadsAs}
-use Rattle.tqd_top.specs.CheckAnswer.{Shows}
+use Rattle.tqd_top.specs.Shows.{Shows}
 use Rattle.tqd_instance.specs.declared.job.Job.{Job}
 use Rattle.tree_checker.specs.declared.rejection.Verdict.{Verdict}
 use Rattle.tree_checker.specs.Verdict.{verdict}
@@ -114,7 +115,7 @@ solve_memory : (outcome : Outcome JobRead) → IsAnswerToSolve outcome Memory
 solve_memory (Ok read) = tt
 solve_memory (Err told) = tt
 
-solve_fault : (a : Bool) (w : World) (files : FilesNamed) (tree : Option Name) (workers : ℕ) (command : Asked) (outcome : Outcome JobRead) (told : Told) → command ≡ ToSolve files tree workers
+solve_fault : (a : Bool) (w : World) (files : FilesNamed) (tree : Option Name) (workers : ℕ) (command : Asked) (outcome : Outcome JobRead) (told : FaultLine) → command ≡ ToSolve files tree workers
     → IsFaultOf a w command told → IsSome w.files → JobOf a w files outcome → IsAnswerToSolve outcome (BadInput told.fault)
 solve_fault a w files tree workers command outcome told same stated is_told given =
     let here = subst (λ (c : Asked). IsFaultOf a w c told) same stated in
@@ -123,24 +124,24 @@ solve_fault a w files tree workers command outcome told same stated is_told give
 pub answers_solve : (a : Bool) (old new : State) (words : List Name) (files : FilesNamed) (tree : Option Name) (outcome : Outcome JobRead) (answer : Answer) → IsSolve words files tree
     → IsSome old.world.files → JobOf a old.world files outcome → IsFaultless old new → HasCause a old new words answer → IsAnswerToSolve outcome answer
 answers_solve a old new words files tree outcome (Solved plan amount) is told given f c =
-    let same = same_solve c.found.files files c.found.tree tree _ _ (same_command words _ _ c.found.is_solve.words_are is.words_are) in
-    subst (λ (o : Outcome JobRead). IsAnswerToSolve o (Solved plan amount)) (sym (job_outcome a old.world files c.found.files outcome (Ok c.found.read) same c.found.stated told given))
-    c.found.solved.solves.0.least
+    let same = same_solve c.reply.files files c.reply.tree tree _ _ (same_command words _ _ c.reply.is_solve.words_are is.words_are) in
+    subst (λ (o : Outcome JobRead). IsAnswerToSolve o (Solved plan amount)) (sym (job_outcome a old.world files c.reply.files outcome (Ok c.reply.read) same c.reply.stated told given))
+    c.reply.solved.solves.0.least
 answers_solve a old new words files tree outcome Infeasible is told given f c =
-    let same = same_solve c.found.files files c.found.tree tree _ _ (same_command words _ _ c.found.is_solve.words_are is.words_are) in
-    subst (λ (o : Outcome JobRead). IsAnswerToSolve o Infeasible) (sym (job_outcome a old.world files c.found.files outcome (Ok c.found.read) same c.found.stated told given))
-    c.found.solved.solves.0
-answers_solve a old new words files tree outcome (Accepted cost) is told given f c = absurd (check_no_solve files c.found.1.files c.found.1.tree tree _ (same_command words _ _ is.words_are c.found.1.is_check.words_are))
-answers_solve a old new words files tree outcome AcceptedNone is told given f c = absurd (check_no_solve files c.found.1.files c.found.1.tree tree _ (same_command words _ _ is.words_are c.found.1.is_check.words_are))
-answers_solve a old new words files tree outcome (Rejected rejection) is told given f c = absurd (check_no_solve files c.found.1.files c.found.1.tree tree _ (same_command words _ _ is.words_are c.found.1.is_check.words_are))
-answers_solve a old new words files tree outcome Listed is told given f c = absurd (elim c.found.1 [
+    let same = same_solve c.reply.files files c.reply.tree tree _ _ (same_command words _ _ c.reply.is_solve.words_are is.words_are) in
+    subst (λ (o : Outcome JobRead). IsAnswerToSolve o Infeasible) (sym (job_outcome a old.world files c.reply.files outcome (Ok c.reply.read) same c.reply.stated told given))
+    c.reply.solved.solves.0
+answers_solve a old new words files tree outcome (Accepted cost) is told given f c = absurd (check_no_solve files c.reply.1.files c.reply.1.tree tree _ (same_command words _ _ is.words_are c.reply.1.is_check.words_are))
+answers_solve a old new words files tree outcome AcceptedNone is told given f c = absurd (check_no_solve files c.reply.1.files c.reply.1.tree tree _ (same_command words _ _ is.words_are c.reply.1.is_check.words_are))
+answers_solve a old new words files tree outcome (Rejected rejection) is told given f c = absurd (check_no_solve files c.reply.1.files c.reply.1.tree tree _ (same_command words _ _ is.words_are c.reply.1.is_check.words_are))
+answers_solve a old new words files tree outcome Listed is told given f c = absurd (elim c.reply.1 [
   | inl listed ↦ solve_no_needs files tree _ listed.orders listed.bill (same_command words _ _ is.words_are listed.is_needs.words_are)
   | inr made ↦ solve_no_make files tree _ made.seed made.goods made.suppliers (same_command words _ _ is.words_are made.is_make.words_are)
 ])
-answers_solve a old new words files tree outcome Words is told given f c = absurd (not_none words _ is.words_are c.found.1)
+answers_solve a old new words files tree outcome Words is told given f c = absurd (not_none words _ is.words_are c.reply.1)
 answers_solve a old new words files tree outcome (BadInput fault) is told given f c =
-    solve_fault a old.world files tree is.workers c.found.1.command outcome (record { fault = fault; text = c.text }) (same_command words _ _ c.found.1.words_are is.words_are) c.found.1.stated told given
-answers_solve a old new words files tree outcome (ReadFault file) is told given f c = absurd (f.reading (unread_rose a old new c.found.1.command file c.found.1.unread))
+    solve_fault a old.world files tree is.workers c.reply.1.command outcome (record { fault = fault; text = c.text }) (same_command words _ _ c.reply.1.words_are is.words_are) c.reply.1.stated told given
+answers_solve a old new words files tree outcome (ReadFault file) is told given f c = absurd (f.reading (unread_rose a old new c.reply.1.command file c.reply.1.unread))
 answers_solve a old new words files tree outcome (WriteFault Out) is told given f c = absurd (f.printing c.0)
 answers_solve a old new words files tree outcome (WriteFault Tree) is told given f c = absurd (f.writing c.0)
 answers_solve a old new words files tree outcome Memory is told given f c = solve_memory outcome
@@ -150,7 +151,7 @@ needs_memory : (outcome : Outcome NeedsRead) → IsAnswerToNeeds outcome Memory
 needs_memory (Ok read) = tt
 needs_memory (Err told) = tt
 
-needs_fault : (a : Bool) (w : World) (orders : Name) (bill : Option Name) (command : Asked) (outcome : Outcome NeedsRead) (told : Told) → command ≡ ToNeed orders bill
+needs_fault : (a : Bool) (w : World) (orders : Name) (bill : Option Name) (command : Asked) (outcome : Outcome NeedsRead) (told : FaultLine) → command ≡ ToNeed orders bill
     → IsFaultOf a w command told → IsSome w.files → NeedsOf a w orders bill outcome → IsAnswerToNeeds outcome (BadInput told.fault)
 needs_fault a w orders bill command outcome told same stated is_told given =
     let here = subst (λ (c : Asked). IsFaultOf a w c told) same stated in
@@ -159,46 +160,46 @@ needs_fault a w orders bill command outcome told same stated is_told given =
 pub answers_needs : (a : Bool) (old new : State) (words : List Name) (orders : Name) (bill : Option Name) (outcome : Outcome NeedsRead) (answer : Answer) → IsNeeds words orders bill
     → IsSome old.world.files → NeedsOf a old.world orders bill outcome → IsFaultless old new → HasCause a old new words answer → IsAnswerToNeeds outcome answer
 answers_needs a old new words orders bill outcome (Solved plan amount) is told given f c =
-    absurd (solve_no_needs c.found.files c.found.tree _ orders bill (same_command words _ _ c.found.is_solve.words_are is.words_are))
+    absurd (solve_no_needs c.reply.files c.reply.tree _ orders bill (same_command words _ _ c.reply.is_solve.words_are is.words_are))
 answers_needs a old new words orders bill outcome Infeasible is told given f c =
-    absurd (solve_no_needs c.found.files c.found.tree _ orders bill (same_command words _ _ c.found.is_solve.words_are is.words_are))
-answers_needs a old new words orders bill outcome (Accepted cost) is told given f c = absurd (check_no_needs c.found.1.files c.found.1.tree orders bill (same_command words _ _ is.words_are c.found.1.is_check.words_are))
-answers_needs a old new words orders bill outcome AcceptedNone is told given f c = absurd (check_no_needs c.found.1.files c.found.1.tree orders bill (same_command words _ _ is.words_are c.found.1.is_check.words_are))
-answers_needs a old new words orders bill outcome (Rejected rejection) is told given f c = absurd (check_no_needs c.found.1.files c.found.1.tree orders bill (same_command words _ _ is.words_are c.found.1.is_check.words_are))
-answers_needs a old new words orders bill outcome Listed is told given f c = elim c.found.1 [
+    absurd (solve_no_needs c.reply.files c.reply.tree _ orders bill (same_command words _ _ c.reply.is_solve.words_are is.words_are))
+answers_needs a old new words orders bill outcome (Accepted cost) is told given f c = absurd (check_no_needs c.reply.1.files c.reply.1.tree orders bill (same_command words _ _ is.words_are c.reply.1.is_check.words_are))
+answers_needs a old new words orders bill outcome AcceptedNone is told given f c = absurd (check_no_needs c.reply.1.files c.reply.1.tree orders bill (same_command words _ _ is.words_are c.reply.1.is_check.words_are))
+answers_needs a old new words orders bill outcome (Rejected rejection) is told given f c = absurd (check_no_needs c.reply.1.files c.reply.1.tree orders bill (same_command words _ _ is.words_are c.reply.1.is_check.words_are))
+answers_needs a old new words orders bill outcome Listed is told given f c = elim c.reply.1 [
   | inl listed ↦
       let same = same_needs listed.orders orders listed.bill bill (same_command words _ _ listed.is_needs.words_are is.words_are) in
       subst (λ (o : Outcome NeedsRead). IsAnswerToNeeds o Listed) (sym (needs_outcome a old.world orders listed.orders bill listed.bill outcome (Ok listed.read) same listed.stated told given)) tt
   | inr made ↦ absurd (needs_no_make orders bill made.seed made.goods made.suppliers (same_command words _ _ is.words_are made.is_make.words_are))
 ]
-answers_needs a old new words orders bill outcome Words is told given f c = absurd (not_none words _ is.words_are c.found.1)
+answers_needs a old new words orders bill outcome Words is told given f c = absurd (not_none words _ is.words_are c.reply.1)
 answers_needs a old new words orders bill outcome (BadInput fault) is told given f c =
-    needs_fault a old.world orders bill c.found.1.command outcome (record { fault = fault; text = c.text }) (same_command words _ _ c.found.1.words_are is.words_are) c.found.1.stated told given
-answers_needs a old new words orders bill outcome (ReadFault file) is told given f c = absurd (f.reading (unread_rose a old new c.found.1.command file c.found.1.unread))
+    needs_fault a old.world orders bill c.reply.1.command outcome (record { fault = fault; text = c.text }) (same_command words _ _ c.reply.1.words_are is.words_are) c.reply.1.stated told given
+answers_needs a old new words orders bill outcome (ReadFault file) is told given f c = absurd (f.reading (unread_rose a old new c.reply.1.command file c.reply.1.unread))
 answers_needs a old new words orders bill outcome (WriteFault Out) is told given f c = absurd (f.printing c.0)
 answers_needs a old new words orders bill outcome (WriteFault Tree) is told given f c = absurd (f.writing c.0)
 answers_needs a old new words orders bill outcome Memory is told given f c = needs_memory outcome
 
 -- words of no form have no other answer
 pub answers_no_form : (a : Bool) (old new : State) (words : List Name) (answer : Answer) → IsNoForm words → HasCause a old new words answer → IsAnswerToNoForm answer
-answers_no_form a old new words (Solved plan amount) none c = not_none words _ c.found.is_solve.words_are none
-answers_no_form a old new words Infeasible none c = not_none words _ c.found.is_solve.words_are none
-answers_no_form a old new words (Accepted cost) none c = not_none words _ c.found.1.is_check.words_are none
-answers_no_form a old new words AcceptedNone none c = not_none words _ c.found.1.is_check.words_are none
-answers_no_form a old new words (Rejected rejection) none c = not_none words _ c.found.1.is_check.words_are none
-answers_no_form a old new words Listed none c = elim c.found.1 [
+answers_no_form a old new words (Solved plan amount) none c = not_none words _ c.reply.is_solve.words_are none
+answers_no_form a old new words Infeasible none c = not_none words _ c.reply.is_solve.words_are none
+answers_no_form a old new words (Accepted cost) none c = not_none words _ c.reply.1.is_check.words_are none
+answers_no_form a old new words AcceptedNone none c = not_none words _ c.reply.1.is_check.words_are none
+answers_no_form a old new words (Rejected rejection) none c = not_none words _ c.reply.1.is_check.words_are none
+answers_no_form a old new words Listed none c = elim c.reply.1 [
   | inl listed ↦ not_none words _ listed.is_needs.words_are none
   | inr made ↦ not_none words _ made.is_make.words_are none
 ]
 answers_no_form a old new words Words none c = tt
-answers_no_form a old new words (BadInput fault) none c = not_none words _ c.found.1.words_are none
-answers_no_form a old new words (ReadFault file) none c = not_none words _ c.found.1.words_are none
+answers_no_form a old new words (BadInput fault) none c = not_none words _ c.reply.1.words_are none
+answers_no_form a old new words (ReadFault file) none c = not_none words _ c.reply.1.words_are none
 answers_no_form a old new words (WriteFault Out) none c = tt
 answers_no_form a old new words (WriteFault Tree) none c = not_none words _ c.1.is_solve.words_are none
 answers_no_form a old new words Memory none c = tt
 
 -- a `make` reads no file
-make_fault : (a : Bool) (w : World) (command : Asked) (told : Told) (s g m : ℕ) → command ≡ ToMake s g m → IsFaultOf a w command told → ⊥
+make_fault : (a : Bool) (w : World) (command : Asked) (told : FaultLine) (s g m : ℕ) → command ≡ ToMake s g m → IsFaultOf a w command told → ⊥
 make_fault a w command told s g m same stated = subst (λ (c : Asked). IsFaultOf a w c told) same stated
 
 make_unread : (a : Bool) (old new : State) (command : Asked) (file : InputFile) (s g m : ℕ) → command ≡ ToMake s g m → IsUnreadBy a old new command file → ⊥
@@ -206,15 +207,15 @@ make_unread a old new command file s g m same unread = subst (λ (c : Asked). Is
 
 pub answers_make : (a : Bool) (old new : State) (words : List Name) (s g m : ℕ) (answer : Answer) → IsMake words s g m → IsFaultless old new → HasCause a old new words answer
     → IsAnswerToMake answer
-answers_make a old new words s g m (Solved plan amount) is f c = solve_no_make c.found.files c.found.tree _ s g m (same_command words _ _ c.found.is_solve.words_are is.words_are)
-answers_make a old new words s g m Infeasible is f c = solve_no_make c.found.files c.found.tree _ s g m (same_command words _ _ c.found.is_solve.words_are is.words_are)
-answers_make a old new words s g m (Accepted cost) is f c = check_no_make c.found.1.files c.found.1.tree s g m (same_command words _ _ is.words_are c.found.1.is_check.words_are)
-answers_make a old new words s g m AcceptedNone is f c = check_no_make c.found.1.files c.found.1.tree s g m (same_command words _ _ is.words_are c.found.1.is_check.words_are)
-answers_make a old new words s g m (Rejected rejection) is f c = check_no_make c.found.1.files c.found.1.tree s g m (same_command words _ _ is.words_are c.found.1.is_check.words_are)
+answers_make a old new words s g m (Solved plan amount) is f c = solve_no_make c.reply.files c.reply.tree _ s g m (same_command words _ _ c.reply.is_solve.words_are is.words_are)
+answers_make a old new words s g m Infeasible is f c = solve_no_make c.reply.files c.reply.tree _ s g m (same_command words _ _ c.reply.is_solve.words_are is.words_are)
+answers_make a old new words s g m (Accepted cost) is f c = check_no_make c.reply.1.files c.reply.1.tree s g m (same_command words _ _ is.words_are c.reply.1.is_check.words_are)
+answers_make a old new words s g m AcceptedNone is f c = check_no_make c.reply.1.files c.reply.1.tree s g m (same_command words _ _ is.words_are c.reply.1.is_check.words_are)
+answers_make a old new words s g m (Rejected rejection) is f c = check_no_make c.reply.1.files c.reply.1.tree s g m (same_command words _ _ is.words_are c.reply.1.is_check.words_are)
 answers_make a old new words s g m Listed is f c = tt
-answers_make a old new words s g m Words is f c = not_none words _ is.words_are c.found.1
-answers_make a old new words s g m (BadInput fault) is f c = make_fault a old.world c.found.1.command _ s g m (same_command words _ _ c.found.1.words_are is.words_are) c.found.1.stated
-answers_make a old new words s g m (ReadFault file) is f c = make_unread a old new c.found.1.command file s g m (same_command words _ _ c.found.1.words_are is.words_are) c.found.1.unread
+answers_make a old new words s g m Words is f c = not_none words _ is.words_are c.reply.1
+answers_make a old new words s g m (BadInput fault) is f c = make_fault a old.world c.reply.1.command _ s g m (same_command words _ _ c.reply.1.words_are is.words_are) c.reply.1.stated
+answers_make a old new words s g m (ReadFault file) is f c = make_unread a old new c.reply.1.command file s g m (same_command words _ _ c.reply.1.words_are is.words_are) c.reply.1.unread
 answers_make a old new words s g m (WriteFault Out) is f c = f.printing c.0
 answers_make a old new words s g m (WriteFault Tree) is f c = f.writing c.0
 answers_make a old new words s g m Memory is f c = tt
@@ -246,34 +247,34 @@ told_bytes : (w : World) (name : Name) → IsSome w.files → IsSome (bytes_at w
 unfolding bytes_at
 told_bytes w name told = mapped (λ files. unwrap_or (files name) []) w.files told
 
-check_fault : (a : Bool) (w : World) (files : FilesNamed) (tree : Name) (command : Asked) (outcome : Outcome JobRead) (told : Told) → command ≡ ToCheck files tree
+check_fault : (a : Bool) (w : World) (files : FilesNamed) (tree : Name) (command : Asked) (outcome : Outcome JobRead) (told : FaultLine) → command ≡ ToCheck files tree
     → IsFaultOf a w command told → IsSome w.files → JobOf a w files outcome → IsAnswerToCheck a w tree outcome (BadInput told.fault)
 check_fault a w files tree command outcome told same stated is_told given = elim (subst (λ (c : Asked). IsFaultOf a w c told) same stated) [
   | inl fault ↦ subst (λ (o : Outcome JobRead). IsAnswerToCheck a w tree o (BadInput told.fault)) (sym (fault.alone is_told outcome given)) refl
   | inr long ↦ subst (λ (o : Outcome JobRead). IsAnswerToCheck a w tree o (BadInput told.fault)) (sym (long.stated.alone is_told outcome given))
-      (λ text reads. (ap (λ (t : Told). t.fault) long.told_is, long_text (bytes_at w tree) long.read.job text (told_bytes w tree is_told) reads.all long.long.beyond))
+      (λ text reads. (ap (λ (t : FaultLine). t.fault) long.told_is, long_text (bytes_at w tree) long.read.job text (told_bytes w tree is_told) reads.all long.long.beyond))
 ]
 
 pub answers_check : (a : Bool) (old new : State) (words : List Name) (files : FilesNamed) (tree : Name) (outcome : Outcome JobRead) (answer : Answer) → IsCheck words files tree
     → IsSome old.world.files → JobOf a old.world files outcome → IsFaultless old new → HasCause a old new words answer → IsAnswerToCheck a old.world tree outcome answer
 answers_check a old new words files tree outcome (Solved plan amount) is told given f c =
-    absurd (check_no_solve c.found.files files tree c.found.tree _ (same_command words _ _ c.found.is_solve.words_are is.words_are))
+    absurd (check_no_solve c.reply.files files tree c.reply.tree _ (same_command words _ _ c.reply.is_solve.words_are is.words_are))
 answers_check a old new words files tree outcome Infeasible is told given f c =
-    absurd (check_no_solve c.found.files files tree c.found.tree _ (same_command words _ _ c.found.is_solve.words_are is.words_are))
+    absurd (check_no_solve c.reply.files files tree c.reply.tree _ (same_command words _ _ c.reply.is_solve.words_are is.words_are))
 answers_check a old new words files tree outcome (Accepted cost) is told given f c =
-    checked_by a old.world words files tree outcome (Accepted cost) c.text is told given c.found.1 (λ shown e. e ∙ c.found.1.answers.0)
+    checked_by a old.world words files tree outcome (Accepted cost) c.text is told given c.reply.1 (λ shown e. e ∙ c.reply.1.answers.0)
 answers_check a old new words files tree outcome AcceptedNone is told given f c =
-    checked_by a old.world words files tree outcome AcceptedNone c.text is told given c.found.1 (λ shown e. e ∙ c.found.1.answers.0)
+    checked_by a old.world words files tree outcome AcceptedNone c.text is told given c.reply.1 (λ shown e. e ∙ c.reply.1.answers.0)
 answers_check a old new words files tree outcome (Rejected rejection) is told given f c =
-    checked_by a old.world words files tree outcome (Rejected rejection) c.text is told given c.found.1 (λ shown e. e ∙ c.found.1.answers.0)
-answers_check a old new words files tree outcome Listed is told given f c = absurd (elim c.found.1 [
+    checked_by a old.world words files tree outcome (Rejected rejection) c.text is told given c.reply.1 (λ shown e. e ∙ c.reply.1.answers.0)
+answers_check a old new words files tree outcome Listed is told given f c = absurd (elim c.reply.1 [
   | inl listed ↦ check_no_needs files tree listed.orders listed.bill (same_command words _ _ listed.is_needs.words_are is.words_are)
   | inr made ↦ check_no_make files tree made.seed made.goods made.suppliers (same_command words _ _ made.is_make.words_are is.words_are)
 ])
-answers_check a old new words files tree outcome Words is told given f c = absurd (not_none words _ is.words_are c.found.1)
+answers_check a old new words files tree outcome Words is told given f c = absurd (not_none words _ is.words_are c.reply.1)
 answers_check a old new words files tree outcome (BadInput fault) is told given f c =
-    check_fault a old.world files tree c.found.1.command outcome (record { fault = fault; text = c.text }) (same_command words _ _ c.found.1.words_are is.words_are) c.found.1.stated told given
-answers_check a old new words files tree outcome (ReadFault file) is told given f c = absurd (f.reading (unread_rose a old new c.found.1.command file c.found.1.unread))
+    check_fault a old.world files tree c.reply.1.command outcome (record { fault = fault; text = c.text }) (same_command words _ _ c.reply.1.words_are is.words_are) c.reply.1.stated told given
+answers_check a old new words files tree outcome (ReadFault file) is told given f c = absurd (f.reading (unread_rose a old new c.reply.1.command file c.reply.1.unread))
 answers_check a old new words files tree outcome (WriteFault Out) is told given f c = absurd (f.printing c.0)
 answers_check a old new words files tree outcome (WriteFault Tree) is told given f c = absurd (f.writing c.0)
 answers_check a old new words files tree outcome Memory is told given f c = text_memory a old.world tree outcome

@@ -1,5 +1,5 @@
 -- From the cause of an answer to the headline.
-use Rattle.std.proofs.Common.{ℕ, ◌≡◌, ◌↔◌, ◌++◌, Bool, List, [], Option, None, Some, refl, sym, ◌∙◌, ap, subst}
+use Rattle.std.proofs.Common.{ℕ, ◌≡◌, ◌↔◌, ◌⊎◌, ◌++◌, Bool, List, [], Option, None, Some, refl, sym, ◌∙◌, ap, subst}
 use Rattle.std.specs.Prelude.{IsSome, Result, Ok, Err, if◌then◌else◌, nat_eq, unwrap_or}
 use Rattle.std.specs.Option.{option_map}
 use Rattle.std.specs.Cmp.Lexicographic.{pointwise, bytes_decides}
@@ -7,25 +7,36 @@ use Rattle.tqd_base.specs.World.{World, State, Name, Bytes, IsIdle, NeverFall, b
 use Rattle.tqd_instance.specs.declared.job.Job.{Job}
 use Rattle.tqd_instance.specs.declared.plan.Plan.{Plan}
 use Rattle.tqd_instance.specs.Plan.{units}
+use Rattle.tqd_instance.specs.Purchase.{Purchase}
 use Rattle.tqd_instance.specs.Least.{HasNoPurchase}
 use Rattle.bound_tree.specs.BoxTree.{IsValid}
-use Rattle.bound_tree.specs.TreeText.{tree_text}
+use Rattle.tree_checker.specs.declared.rejection.Rejection.{Rejection}
 use Rattle.tree_checker.specs.declared.rejection.Verdict.{Verdict}
+use Rattle.plan_report.specs.declared.fault.FileFault.{FileFault}
+use Rattle.plan_report.specs.declared.file.InputFile.{InputFile}
 use Rattle.tree_checker.specs.declared.rejection.Verdict.TheVariants.{Optimal, NoPurchase}
 use Rattle.tree_checker.specs.Verdict.{verdict}
-use Rattle.verdict_laws.specs.Shown.{HasLeast, ShowsLeast, ShowsNone}
-use Rattle.tqd_top.specs.declared.answer.Answer.TheVariants.{Solved, Infeasible, Accepted, AcceptedNone}
+use Rattle.bound_tree.specs.Shared.{shared}
+use Rattle.bound_tree.proofs.Unfolding.{share_root}
+use Rattle.verdict_laws.specs.Shown.{HasLeast, IsTextOf, ShowsLeast, ShowsNone, with_slots}
+use Rattle.tqd_top.specs.declared.answer.Answer.TheVariants.{Solved, Infeasible, Accepted, AcceptedNone, Rejected, Listed, Words, BadInput, ReadFault, WriteFault}
+use Rattle.tqd_top.specs.declared.answer.Target.{Target}
+use Rattle.tqd_top.specs.declared.answer.Target.TheVariants.{Tree, Out}
 use Rattle.tqd_top.specs.declared.answer.Ended.{Ended}
-use Rattle.tqd_top.specs.declared.answer.Found.{Found}
-use Rattle.tqd_top.specs.declared.answer.Lost.{Lost}
-use Rattle.tqd_top.specs.declared.answer.Lost.TheVariants.{Tree as LostTree, Memory as WantsMemory}
-use Rattle.tqd_top.specs.Certificate.{IsCertificate, IsOptimum}
-use Rattle.tqd_top.specs.Saves.{saved}
-use Rattle.tqd_top.specs.Answers.{FailsOnlyInputs, HasCause, status_of}
-use Rattle.tqd_top.specs.Headline.{IsFileShowing, IsLeastFound, IsLeastShown, IsNoneFound, IsNoneShown, IsProgramRun, Prints}
-use Rattle.tqd_top.specs.Runs.{EndGives, Finds}
+use Rattle.tqd_top.specs.declared.answer.Reply.{Reply}
+use Rattle.tqd_top.specs.declared.answer.NoReply.{NoReply}
+use Rattle.tqd_top.specs.declared.answer.NoReply.TheVariants.{Tree as NoTree, Memory as WantsMemory}
+use Rattle.tqd_top.specs.Certificate.{IsCertificate, IsLeastPlan}
+use Rattle.tqd_top.specs.SavedTree.{saved}
+use Rattle.tqd_top.specs.Causes.{FailsOnlyInputs, IsBadInput, IsChecked, IsListed, IsMade, IsReadFault, status_of}
+use Rattle.tqd_top.specs.Forms.{usage_text}
+use Rattle.tqd_top.specs.Words.{IsNoForm}
+use Rattle.tqd_top.specs.Output.{IsFileShowing, IsWriteFault, Leaves, Prints, Says}
+use Rattle.tqd_top.specs.Headline.{AcceptedClause, AcceptedNoneClause, InfeasibleClause, IsProgramRun, SolvedClause}
+use Rattle.tqd_top.specs.Inner.Runs.{EndGives, Replies}
 use Rattle.tqd_top.proofs.Readings.{falls_never}
-use Rattle.tqd_top.proofs.Causes.{cause_of, cause_of_memory, cause_of_tree, idle_after, idle_memory, idle_tree, inputs_of}
+use Rattle.tqd_top.proofs.Solutions.{certified_root}
+use Rattle.tqd_top.proofs.Causes.{HasCause, cause_of, cause_of_memory, cause_of_tree, idle_after, idle_memory, idle_tree, inputs_of}
 use Rattle.tqd_top.proofs.Completes.{answers_check, answers_make, answers_needs, answers_no_form, answers_solve}
 
 -- what the laws say of the verdict of a text
@@ -35,25 +46,31 @@ pub record IsLawful : Type 0 where
   pub sound : (job : Job) (text : Bytes) (c : ℕ) → verdict job text ≡ Optimal c → HasLeast job text c
   pub empty : (job : Job) (text : Bytes) → verdict job text ≡ NoPurchase → HasNoPurchase job
 
+-- a tree that certifies an answer is one of the root, so that its text is one of it
+text_of_certificate : (job : Job) (best : Option Purchase) (text : Bytes) → (c : IsCertificate job best text) → IsTextOf job best c.tree text
+text_of_certificate job best text c =
+    let unfolds = share_root job c.tree (certified_root job best c.tree c.certifies) in
+    with_slots (shared job c.tree) unfolds.0 (sym unfolds.1) c.text_is
+
 -- the text of a tree that certifies an answer has its verdict
-shows_least : (job : Job) (plan : Plan) (amount : ℕ) (text : Bytes) → IsOptimum job plan amount → IsCertificate job (Some (units plan)) text → ShowsLeast job text amount
+shows_least : (job : Job) (plan : Plan) (amount : ℕ) (text : Bytes) → IsLeastPlan job plan amount → IsCertificate job (Some (units plan)) text → ShowsLeast job text amount
 shows_least job plan amount text o c = record {
   x = units plan;
-  tree = c.certifies.tree;
+  tree = c.tree;
   root = c.certifies.root;
   is_root = c.certifies.is_root;
-  text_is = c.text_is ∙ ap (tree_text job (Some (units plan))) c.certifies.nodes_are;
+  text_is = text_of_certificate job (Some (units plan)) text c;
   feasible = o.least.feasible;
   cost_is = o.costs;
-  valid = subst (λ (n : ℕ). IsValid job (Some n) c.certifies.root c.certifies.tree) (sym o.costs) c.certifies.valid;
+  valid = subst (λ (n : ℕ). IsValid job (Some n) c.certifies.root c.tree) (sym o.costs) c.certifies.valid;
 }
 
 shows_none : (job : Job) (text : Bytes) → IsCertificate job None text → ShowsNone job text
 shows_none job text c = record {
-  tree = c.certifies.tree;
+  tree = c.tree;
   root = c.certifies.root;
   is_root = c.certifies.is_root;
-  text_is = c.text_is ∙ ap (tree_text job None) c.certifies.nodes_are;
+  text_is = text_of_certificate job None text c;
   valid = c.certifies.valid;
 }
 
@@ -91,11 +108,22 @@ prints old between new tree certificate text said saves world same =
     ap (λ (w : World). w.output) (world ∙ ap (λ (w : World). print w text) saves) ∙ output_after old tree certificate text
     ∙ ap (λ (t : Bytes). option_map (λ output. output ++ t) old.output) same
 
+-- what an answer to a job leaves
+leaves : (old between new : World) (tree : Option Name) (job : Job) (best : Option Purchase) (certificate text said : Bytes) (shown : Verdict) → IsCertificate job best certificate
+    → between ≡ saved old tree certificate → new ≡ print between text → text ≡ said → verdict job certificate ≡ shown → Leaves old new tree job best said shown
+leaves old between new tree job best certificate text said shown certifies saves world same is = record {
+  printed = prints old between new tree certificate text said saves world same;
+  shows = λ name tree_is told. shown_file old between new tree name job certificate text shown tree_is saves world told is;
+  certificate = certificate;
+  certifies = certifies;
+  world = world ∙ ap (λ (w : World). print w text) saves ∙ ap (print (saved old tree certificate)) same;
+}
+
 -- what the answers mean
-least_found : IsLawful → (a : Bool) (old new : State) (words : List Name) (plan : Plan) (amount : ℕ) → HasCause a old new words (Solved plan amount)
-    → IsLeastFound a old.world new.world words plan amount
-least_found laws a old new words plan amount c =
-    let f = c.found in
+solved_clause : IsLawful → (a : Bool) (old new : State) (words : List Name) (plan : Plan) (amount : ℕ) → HasCause a old new words (Solved plan amount)
+    → SolvedClause a old.world new.world words plan amount
+solved_clause laws a old new words plan amount c =
+    let f = c.reply in
     let s = f.solved in
     record {
       files = f.files;
@@ -103,16 +131,16 @@ least_found laws a old new words plan amount c =
       is_solve = f.is_solve;
       read = f.read;
       stated = f.stated;
+      sized = s.solves.0.sized;
       least = s.solves.0.least;
       cost_is = s.solves.0.costs;
-      printed = prints old.world c.between new.world f.tree s.certificate c.text _ s.saves c.world s.solves.1;
-      saved = λ name tree_is told. shown_file old.world c.between new.world f.tree name f.read.job s.certificate c.text (Optimal amount) tree_is s.saves c.world told
+      leaves = leaves old.world c.between new.world f.tree f.read.job (Some (units plan)) s.certificate c.text _ (Optimal amount) s.solves.2 s.saves c.world s.solves.1
           ((laws.optimal f.read.job s.certificate amount).1 (shows_least f.read.job plan amount s.certificate s.solves.0 s.solves.2));
     }
 
-none_found : IsLawful → (a : Bool) (old new : State) (words : List Name) → HasCause a old new words Infeasible → IsNoneFound a old.world new.world words
-none_found laws a old new words c =
-    let f = c.found in
+infeasible_clause : IsLawful → (a : Bool) (old new : State) (words : List Name) → HasCause a old new words Infeasible → InfeasibleClause a old.world new.world words
+infeasible_clause laws a old new words c =
+    let f = c.reply in
     let s = f.solved in
     record {
       files = f.files;
@@ -121,14 +149,17 @@ none_found laws a old new words c =
       read = f.read;
       stated = f.stated;
       none = s.solves.0;
-      printed = prints old.world c.between new.world f.tree s.certificate c.text _ s.saves c.world s.solves.1;
-      saved = λ name tree_is told. shown_file old.world c.between new.world f.tree name f.read.job s.certificate c.text NoPurchase tree_is s.saves c.world told
+      leaves = leaves old.world c.between new.world f.tree f.read.job None s.certificate c.text _ NoPurchase s.solves.2 s.saves c.world s.solves.1
           ((laws.none f.read.job s.certificate).1 (shows_none f.read.job s.certificate s.solves.2));
     }
 
-least_shown : IsLawful → (a : Bool) (old new : State) (words : List Name) (amount : ℕ) → HasCause a old new words (Accepted amount) → IsLeastShown a old.world words amount
-least_shown laws a old new words amount c =
-    let f = c.found.1 in
+-- the text was printed on the world as it was
+said_at_once : (old between new : World) (text said : Bytes) → between ≡ old → new ≡ print between text → text ≡ said → new ≡ print old said
+said_at_once old between new text said same world is = world ∙ ap (λ (w : World). print w text) same ∙ ap (print old) is
+
+accepted_clause : IsLawful → (a : Bool) (old new : State) (words : List Name) (amount : ℕ) → HasCause a old new words (Accepted amount) → AcceptedClause a old.world new.world words amount
+accepted_clause laws a old new words amount c =
+    let f = c.reply.1 in
     let is = sym f.shows.is_verdict ∙ f.answers.0 in
     record {
       files = f.files;
@@ -138,13 +169,15 @@ least_shown laws a old new words amount c =
       stated = f.stated;
       text = f.shows.text;
       reads = f.shows.reads;
+      within = f.shows.within;
       verdict_is = is;
       least = laws.sound f.read.job f.shows.text amount is;
+      world = said_at_once old.world c.between new.world c.text _ c.reply.0 c.world f.answers.1;
     }
 
-none_shown : IsLawful → (a : Bool) (old new : State) (words : List Name) → HasCause a old new words AcceptedNone → IsNoneShown a old.world words
-none_shown laws a old new words c =
-    let f = c.found.1 in
+accepted_none_clause : IsLawful → (a : Bool) (old new : State) (words : List Name) → HasCause a old new words AcceptedNone → AcceptedNoneClause a old.world new.world words
+accepted_none_clause laws a old new words c =
+    let f = c.reply.1 in
     let is = sym f.shows.is_verdict ∙ f.answers.0 in
     record {
       files = f.files;
@@ -154,49 +187,80 @@ none_shown laws a old new words c =
       stated = f.stated;
       text = f.shows.text;
       reads = f.shows.reads;
+      within = f.shows.within;
       verdict_is = is;
       none = laws.empty f.read.job f.shows.text is;
+      world = said_at_once old.world c.between new.world c.text _ c.reply.0 c.world f.answers.1;
     }
+
+says : (old between new : World) (text : Bytes) (IsText : Bytes → Type 0) → between ≡ old → new ≡ print between text → IsText text → Says old new IsText
+says old between new text IsText same world is = record { text = text; is_text = is; world = world ∙ ap (λ (w : World). print w text) same }
+
+rejected_clause : (a : Bool) (old new : State) (words : List Name) (rejection : Rejection) → HasCause a old new words (Rejected rejection)
+    → Says old.world new.world (IsChecked a old.world words (Rejected rejection))
+rejected_clause a old new words rejection c = says old.world c.between new.world c.text (IsChecked a old.world words (Rejected rejection)) c.reply.0 c.world c.reply.1
+
+listed_clause : (a : Bool) (old new : State) (words : List Name) → HasCause a old new words Listed → Says old.world new.world (λ text. IsListed a old.world words text ⊎ IsMade words text)
+listed_clause a old new words c = says old.world c.between new.world c.text (λ text. IsListed a old.world words text ⊎ IsMade words text) c.reply.0 c.world c.reply.1
+
+usage_clause : (a : Bool) (old new : State) (words : List Name) → HasCause a old new words Words → Says old.world new.world (λ text. IsNoForm words × (text ≡ usage_text))
+usage_clause a old new words c = says old.world c.between new.world c.text (λ text. IsNoForm words × (text ≡ usage_text)) c.reply.0 c.world (c.reply.1, c.reply.2)
+
+bad_clause : (a : Bool) (old new : State) (words : List Name) (fault : FileFault) → HasCause a old new words (BadInput fault) → Says old.world new.world (IsBadInput a old.world words fault)
+bad_clause a old new words fault c = says old.world c.between new.world c.text (IsBadInput a old.world words fault) c.reply.0 c.world c.reply.1
+
+unread_clause : (a : Bool) (old new : State) (words : List Name) (file : InputFile) → HasCause a old new words (ReadFault file) → Says old.world new.world (IsReadFault a old new words file)
+unread_clause a old new words file c = says old.world c.between new.world c.text (IsReadFault a old new words file) c.reply.0 c.world c.reply.1
+
+write_clause : (a : Bool) (old new : State) (words : List Name) (target : Target) → HasCause a old new words (WriteFault target) → IsWriteFault a old new words target
+write_clause a old new words Tree c = c
+write_clause a old new words Out c = c
 
 -- the headline of an answer that has its cause
 headline : IsLawful → (a : Bool) (old new : State) (words : List Name) (ended : Ended) → IsIdle new.world → ended.status ≡ status_of ended.answer → HasCause a old new words ended.answer
     → FailsOnlyInputs old new words → NeverFall old.faults new.faults → IsProgramRun a old new words ended
 headline laws a old new words ended idle status cause inputs falls = record {
-  idle = idle;
-  status = status;
-  cause = cause;
-  inputs = inputs;
-  never_fall = falls;
-  solved = λ plan amount is. least_found laws a old new words plan amount (subst (HasCause a old new words) is cause);
-  infeasible = λ is. none_found laws a old new words (subst (HasCause a old new words) is cause);
-  accepted = λ amount is. least_shown laws a old new words amount (subst (HasCause a old new words) is cause);
-  accepted_none = λ is. none_shown laws a old new words (subst (HasCause a old new words) is cause);
+  solved = λ plan amount is. solved_clause laws a old new words plan amount (subst (HasCause a old new words) is cause);
+  infeasible = λ is. infeasible_clause laws a old new words (subst (HasCause a old new words) is cause);
+  accepted = λ amount is. accepted_clause laws a old new words amount (subst (HasCause a old new words) is cause);
+  accepted_none = λ is. accepted_none_clause laws a old new words (subst (HasCause a old new words) is cause);
+  rejected = λ rejection is. rejected_clause a old new words rejection (subst (HasCause a old new words) is cause);
+  listed = λ is. listed_clause a old new words (subst (HasCause a old new words) is cause);
+  usage = λ is. usage_clause a old new words (subst (HasCause a old new words) is cause);
+  bad_input = λ fault is. bad_clause a old new words fault (subst (HasCause a old new words) is cause);
+  read_fault = λ file is. unread_clause a old new words file (subst (HasCause a old new words) is cause);
+  write_fault = λ target is. write_clause a old new words target (subst (HasCause a old new words) is cause);
+  memory = λ is. subst (HasCause a old new words) is cause;
   solve_complete = λ files tree outcome is told given f. answers_solve a old new words files tree outcome ended.answer is told given f cause;
   check_complete = λ files tree outcome is told given f. answers_check a old new words files tree outcome ended.answer is told given f cause;
   needs_complete = λ orders bill outcome is told given f. answers_needs a old new words orders bill outcome ended.answer is told given f cause;
   make_complete = λ seed goods suppliers is f. answers_make a old new words seed goods suppliers ended.answer is f cause;
   no_form = λ none. answers_no_form a old new words ended.answer none cause;
+  status = status;
+  idle = idle;
+  inputs = inputs;
+  never_fall = falls;
 }
 
 -- and of one that was found, and printed or not
-pub ends : IsLawful → (a : Bool) (old mid new : State) (words : List Name) (found : Result Found Lost) (ended : Ended) → IsIdle old.world → Finds a old mid words found
-    → EndGives mid new found ended.answer → ended.status ≡ status_of ended.answer → IsProgramRun a old new words ended
-ends laws a old mid new words (Ok found) ended idle finds gives status = headline laws a old new words ended
-    (idle_after a old mid new words found ended.answer finds gives idle)
+pub ends : IsLawful → (a : Bool) (old mid new : State) (words : List Name) (reply : Result Reply NoReply) (ended : Ended) → IsIdle old.world → Replies a old mid words reply
+    → EndGives mid new reply ended.answer → ended.status ≡ status_of ended.answer → IsProgramRun a old new words ended
+ends laws a old mid new words (Ok reply) ended idle replies gives status = headline laws a old new words ended
+    (idle_after a old mid new words reply ended.answer replies gives idle)
     status
-    (cause_of a old mid new words found ended.answer finds gives)
-    (inputs_of old mid new words finds.quiet.named gives.kept)
-    (falls_never _ mid.faults _ finds.quiet.never_fall gives.never_fall)
-ends laws a old mid new words (Err LostTree) ended idle finds gives status =
-    let here = subst (λ (s : State). Finds a old s words (Err LostTree)) (sym gives.1) finds in
+    (cause_of a old mid new words reply ended.answer replies gives)
+    (inputs_of old mid new words replies.quiet.named gives.kept)
+    (falls_never _ mid.faults _ replies.quiet.never_fall gives.never_fall)
+ends laws a old mid new words (Err NoTree) ended idle replies gives status =
+    let here = subst (λ (s : State). Replies a old s words (Err NoTree)) (sym gives.1) replies in
     headline laws a old new words ended
     (idle_tree a old new words here idle)
     status
     (subst (HasCause a old new words) (sym gives.0) (cause_of_tree a old new words here))
     here.quiet.named
     here.quiet.never_fall
-ends laws a old mid new words (Err WantsMemory) ended idle finds gives status =
-    let here = subst (λ (s : State). Finds a old s words (Err WantsMemory)) (sym gives.1) finds in
+ends laws a old mid new words (Err WantsMemory) ended idle replies gives status =
+    let here = subst (λ (s : State). Replies a old s words (Err WantsMemory)) (sym gives.1) replies in
     headline laws a old new words ended
     (idle_memory a old new words here idle)
     status

@@ -4,9 +4,11 @@ pub mod OneOutcome
 pub mod ReadFacts
 pub mod Saved
 pub mod Solutions
+pub mod FormLemmas
 pub mod Ranges
+pub mod OneForm
 pub mod Checked
-pub mod Finding
+pub mod ReplyLemmas
 pub mod Causes
 pub mod Completes
 pub mod Headlines

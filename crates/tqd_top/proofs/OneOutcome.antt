@@ -24,7 +24,7 @@ use Rattle.plan_report.specs.declared.fault.FileFault.TheVariants.{Explode as In
 use Rattle.tqd_top.specs.declared.reading.NeedsRead.{NeedsRead}
 use Rattle.tqd_top.specs.declared.reading.OffersRead.{OffersRead}
 use Rattle.tqd_top.specs.declared.reading.JobRead.{JobRead}
-use Rattle.tqd_top.specs.JobOf.{ExplosionGives, IsOnly, JobGives, Outcome, Told, before_job, told_by_bill, told_by_offers}
+use Rattle.tqd_top.specs.JobOf.{ExplosionGives, IsOnly, JobGives, Outcome, FaultLine, before_job, told_by_bill, told_by_offers}
 
 -- the same bill with the same needs
 same_needs : (a b : NeedsRead) → a.bill ≡ b.bill → a.needs ≡ b.needs → a ≡ b
@@ -57,7 +57,7 @@ explosion_alone bill is_bill (Err told) (Ok b) g h =
     absurd (needs_or_fault b.needs g.0 (agree (Ok b.needs) (Err (Refused g.0)) h.1 g.2 (no_memory b.needs) (no_memory_at g.0)))
 explosion_alone bill is_bill (Err told) (Err fault) g h =
     let agree = answers_agree (structure_of bill) (IsStructure-of bill is_bill) in
-    ap (λ (x : Told). Err x) (h.1 ∙ ap (λ (f : ExplodeFault). told_by_bill bill (InExplosion f)) (one_fault h.0 g.0 (agree (Err (Refused h.0)) (Err (Refused g.0)) h.2 g.2 (no_memory_at h.0) (no_memory_at g.0))) ∙ sym g.1)
+    ap (λ (x : FaultLine). Err x) (h.1 ∙ ap (λ (f : ExplodeFault). told_by_bill bill (InExplosion f)) (one_fault h.0 g.0 (agree (Err (Refused h.0)) (Err (Refused g.0)) h.2 g.2 (no_memory_at h.0) (no_memory_at g.0))) ∙ sym g.1)
 
 pub one_explosion : (bill : BillData) → IsBill bill → (outcome : Outcome NeedsRead) → ExplosionGives bill outcome → IsOnly (Unit {0}) (ExplosionGives bill) outcome
 one_explosion bill is_bill outcome gives = record { states = gives; alone = λ known other g. explosion_alone bill is_bill outcome other gives g }
@@ -150,7 +150,7 @@ job_alone before formed (Ok a) (Ok b) g h = ap (λ (x : JobRead). Ok x) (same_jo
 job_alone before formed (Ok a) (Err told) g h = absurd (passes_or_refuses before.book.parts h.0 g.1 h.2)
 job_alone before formed (Err told) (Ok b) g h = absurd (passes_or_refuses before.book.parts g.0 h.1 g.2)
 job_alone before formed (Err told) (Err fault) g h =
-    ap (λ (x : Told). Err x) (h.1 ∙ ap (λ (f : JobFault). told_by_offers before (InJob f)) (one_refusal before.book.parts h.0 g.0 h.2 g.2) ∙ sym g.1)
+    ap (λ (x : FaultLine). Err x) (h.1 ∙ ap (λ (f : JobFault). told_by_offers before (InJob f)) (one_refusal before.book.parts h.0 g.0 h.2 g.2) ∙ sym g.1)
 
 pub one_job : (before : OffersRead) → IsWellFormed before.book.parts → (outcome : Outcome JobRead) → JobGives before outcome → IsOnly (Unit {0}) (JobGives before) outcome
 one_job before formed outcome gives = record { states = gives; alone = λ known other g. job_alone before formed outcome other gives g }

@@ -30,8 +30,8 @@ use Rattle.tqd_top.specs.declared.reading.NeedsRead.{NeedsRead}
 use Rattle.tqd_top.specs.declared.reading.OffersRead.{OffersRead}
 use Rattle.tqd_top.specs.declared.reading.JobRead.{JobRead}
 use Rattle.tqd_top.specs.Words.{FilesNamed}
-use Rattle.tqd_top.specs.JobOf.{Told, JobOf, NeedsOf, before_job, OffersOf, TermsGive, TermsOf, offers_stated, plainly, terms_stated, wanted}
-use Rattle.tqd_top.specs.ReadBook.{IsReadBook, IsReadJob}
+use Rattle.tqd_top.specs.JobOf.{FaultLine, JobOf, NeedsOf, before_job, OffersOf, TermsGive, TermsOf, offers_stated, plainly, terms_stated, wanted}
+use Rattle.tqd_top.specs.Inner.ReadBook.{IsReadBook, IsReadJob}
 
 no_value : {F W : Type 0} (f : F) (w : W) → ◌≡◌ {A = Result W F} (Err f) (Ok w) → ⊥
 no_value f w e = cc
@@ -72,7 +72,7 @@ book_keeps wants book bytes after e =
     ap (λ (b : BookData). b.parts.needs) m.2 ∙ fold_keeps with_term (λ (parts : PartsData). parts.needs) (λ parts t. grind arith) m.0 book.parts
 
 -- what a file states that is not too long
-sized_ok : {V : Type 0} (long : Bool) (told : Told) (stated : Result V Told) (value : V) → (if long then Err told else stated) ≡ Ok value → stated ≡ Ok value
+sized_ok : {V : Type 0} (long : Bool) (told : FaultLine) (stated : Result V FaultLine) (value : V) → (if long then Err told else stated) ≡ Ok value → stated ≡ Ok value
 sized_ok true told stated value e = cc
 sized_ok false told stated value e = e
 

@@ -10,11 +10,11 @@ use Rattle.tqd_base.specs.Calls.{Rests, FailsReading}
 use Rattle.tqd_base.specs.ReadAll.{IsTooLong}
 use Rattle.plan_report.specs.declared.file.InputFile.{InputFile}
 use Rattle.plan_report.specs.declared.fault.FileFault.TheVariants.{Size}
-use Rattle.tqd_top.specs.declared.halt.Halt.{Halt}
-use Rattle.tqd_top.specs.declared.halt.Halt.TheVariants.{Bad, Unread, Memory}
+use Rattle.tqd_top.specs.declared.no_value.NoValue.{NoValue}
+use Rattle.tqd_top.specs.declared.no_value.NoValue.TheVariants.{Bad, Unread, Memory}
 use Rattle.tqd_top.specs.Reads.{ReadsAs, FailsAt}
-use Rattle.tqd_top.specs.JobOf.{Told, Outcome, Gives, IsOnly, Then, plainly, sized}
-use Rattle.tqd_top.specs.Steps.{Answers, HaltsAt, InputGives, IsFileUnread, IsLong, IsStill, ReadGives, Yields}
+use Rattle.tqd_top.specs.JobOf.{FaultLine, Outcome, Gives, IsOnly, Then, plainly, sized}
+use Rattle.tqd_top.specs.Inner.Steps.{Answers, StopsAt, InputGives, IsFileUnread, IsLong, IsStill, ReadGives, Yields}
 
 -- a count that rose before, or after, another did not fall
 pub rose_before : (a b c : ℕ) → Rose a b → b ≤ c → Rose a c
@@ -55,17 +55,17 @@ pub unread_file : (old new : State) (file : InputFile) (name : Name) → FailsRe
 unread_file old new file name f = (record { world = f.world; never_fall = f.never_fall }, record { is_file = refl; fails = record { rose = f.rose; named = f.named } })
 
 -- a halt at a fault of the size
-pub size_halts : (a : Bool) (old new : State) (file : InputFile) (name : Name) (halt : Halt) → Rests old new → IsLong a old name → HaltsAt (plainly (Size file)) halt
+pub size_stops : (a : Bool) (old new : State) (file : InputFile) (name : Name) (halt : NoValue) → Rests old new → IsLong a old name → StopsAt (plainly (Size file)) halt
     → InputGives a old new file name (Err halt)
-size_halts a old new file name (Bad fault text) rests long h = (rests, sym h, long)
-size_halts a old new file name (Unread other) rests long h = absurd h
-size_halts a old new file name Memory rests long h = rests
+size_stops a old new file name (Bad fault text) rests long h = (rests, sym h, long)
+size_stops a old new file name (Unread other) rests long h = absurd h
+size_stops a old new file name Memory rests long h = rests
 
 -- a halt at a fault
-pub answers_halt : {V : Type 0} (States : Outcome V → Type 0) (told : Told) (halt : Halt) → IsOnly (Unit {0}) States (Err told) → HaltsAt told halt → Answers States (Err halt)
-answers_halt States told (Bad fault text) s h = subst (λ (t : Told). IsOnly (Unit {0}) States (Err t)) h s
-answers_halt States told (Unread file) s h = h
-answers_halt States told Memory s h = tt
+pub answers_stop : {V : Type 0} (States : Outcome V → Type 0) (told : FaultLine) (halt : NoValue) → IsOnly (Unit {0}) States (Err told) → StopsAt told halt → Answers States (Err halt)
+answers_stop States told (Bad fault text) s h = subst (λ (t : FaultLine). IsOnly (Unit {0}) States (Err t)) h s
+answers_stop States told (Unread file) s h = h
+answers_stop States told Memory s h = tt
 
 -- two readings of one name, where the files are told, give the same bytes
 one_reading : (o : Option Bytes) (b c : Bytes) → IsSome o → IfSome o (λ file. b ≡ file) → IfSome o (λ file. c ≡ file) → b ≡ c
@@ -102,17 +102,17 @@ sized_long : {V : Type 0} (file : InputFile) (stated : Bytes → Outcome V) (byt
 sized_long file stated bytes h = rw (is_long (length bytes) FILE_MAX h) refl
 
 -- the outcome of one file, whose bytes were read or not
-pub input_halts : {V : Type 0} (a : Bool) (old new : State) (file : InputFile) (name : Name) (stated : Bytes → Outcome V) (halt : Halt)
+pub input_stops : {V : Type 0} (a : Bool) (old new : State) (file : InputFile) (name : Name) (stated : Bytes → Outcome V) (halt : NoValue)
     → InputGives a old new file name (Err halt)
     → ReadGives (Gives a old.world name (sized file stated)) (IsFileUnread old new file name) old new (Err halt)
-input_halts a old new file name stated (Bad fault text) h = (
+input_stops a old new file name stated (Bad fault text) h = (
   h.0,
-  only_gives a old.world name (sized file stated) h.2.bytes _ h.2.reads (sized_long file stated h.2.bytes h.2.long ∙ ap (λ (t : Told). Err t) (sym h.1)),
+  only_gives a old.world name (sized file stated) h.2.bytes _ h.2.reads (sized_long file stated h.2.bytes h.2.long ∙ ap (λ (t : FaultLine). Err t) (sym h.1)),
 )
-input_halts a old new file name stated (Unread other) h = h
-input_halts a old new file name stated Memory h = h
+input_stops a old new file name stated (Unread other) h = h
+input_stops a old new file name stated Memory h = h
 
-pub input_read : {V : Type 0} (a : Bool) (old new : State) (file : InputFile) (name : Name) (stated : Bytes → Outcome V) (Fails : InputFile → Type 0) (bytes : Bytes) (r : Result V Halt)
+pub input_read : {V : Type 0} (a : Bool) (old new : State) (file : InputFile) (name : Name) (stated : Bytes → Outcome V) (Fails : InputFile → Type 0) (bytes : Bytes) (r : Result V NoValue)
     → Rests old new → ReadsAs a old.world name bytes → length bytes ≤ FILE_MAX → Yields (stated bytes) r
     → ReadGives (Gives a old.world name (sized file stated)) Fails old new r
 input_read a old new file name stated Fails bytes (Ok value) rests reads short y =
@@ -123,38 +123,38 @@ input_read a old new file name stated Fails bytes (Err (Unread other)) rests rea
 input_read a old new file name stated Fails bytes (Err Memory) rests reads short y = rests
 
 -- the file that could not be read, in the words of a longer reading
-pub fails_as : {V : Type 0} (States : Outcome V → Type 0) (Fails Wider : InputFile → Type 0) (old new : State) (r : Result V Halt)
+pub fails_as : {V : Type 0} (States : Outcome V → Type 0) (Fails Wider : InputFile → Type 0) (old new : State) (r : Result V NoValue)
     → ((file : InputFile) → Fails file → Wider file) → ReadGives States Fails old new r → ReadGives States Wider old new r
 fails_as States Fails Wider old new (Ok value) wider h = h
 fails_as States Fails Wider old new (Err (Bad fault text)) wider h = h
 fails_as States Fails Wider old new (Err (Unread file)) wider h = (h.0, wider file h.1)
 fails_as States Fails Wider old new (Err Memory) wider h = h
 
-ok_is_no_err : {V : Type 0} (value : V) (told : Told) → ◌≡◌ {A = Outcome V} (Ok value) (Err told) → ⊥
+ok_is_no_err : {V : Type 0} (value : V) (told : FaultLine) → ◌≡◌ {A = Outcome V} (Ok value) (Err told) → ⊥
 ok_is_no_err value told e = cc
 
 ok_is_one : {V : Type 0} (x y : V) → ◌≡◌ {A = Outcome V} (Ok x) (Ok y) → x ≡ y
 ok_is_one x y e = cc
 
 -- a first step that gave no value gives the outcome of both
-err_is_one : {V : Type 0} (told other : Told) → ◌≡◌ {A = Outcome V} (Err told) (Err other) → told ≡ other
+err_is_one : {V : Type 0} (told other : FaultLine) → ◌≡◌ {A = Outcome V} (Err told) (Err other) → told ≡ other
 err_is_one told other e = cc
 
-first_alone : {V W : Type 0} (Known : Type 0) (First : Outcome V → Type 0) (Next : V → Outcome W → Type 0) (told : Told)
+first_alone : {V W : Type 0} (Known : Type 0) (First : Outcome V → Type 0) (Next : V → Outcome W → Type 0) (told : FaultLine)
     → IsOnly Known First (Err told) → Known → (other : Outcome W) → Then First Next other → other ≡ Err told
 first_alone Known First Next told one known (Ok value) both = absurd (ok_is_no_err both.0 told (one.alone known (Ok both.0) both.1))
-first_alone Known First Next told one known (Err fault) (inl first) = ap (λ (t : Told). Err t) (err_is_one fault told (one.alone known (Err fault) first))
+first_alone Known First Next told one known (Err fault) (inl first) = ap (λ (t : FaultLine). Err t) (err_is_one fault told (one.alone known (Err fault) first))
 first_alone Known First Next told one known (Err fault) (inr both) = absurd (ok_is_no_err both.0 told (one.alone known (Ok both.0) both.1))
 
-only_first : {V W : Type 0} (Known : Type 0) (First : Outcome V → Type 0) (Next : V → Outcome W → Type 0) (told : Told)
+only_first : {V W : Type 0} (Known : Type 0) (First : Outcome V → Type 0) (Next : V → Outcome W → Type 0) (told : FaultLine)
     → IsOnly Known First (Err told) → IsOnly Known (Then First Next) (Err told)
 only_first Known First Next told one = record { states = inl one.states; alone = first_alone Known First Next told one }
 
-pub first_halts : {V W : Type 0} (First : Outcome V → Type 0) (Next : V → Outcome W → Type 0) (Fails Wider : InputFile → Type 0) (old new : State) (halt : Halt)
+pub first_stops : {V W : Type 0} (First : Outcome V → Type 0) (Next : V → Outcome W → Type 0) (Fails Wider : InputFile → Type 0) (old new : State) (halt : NoValue)
     → ((file : InputFile) → Fails file → Wider file) → ReadGives First Fails old new (Err halt) → ReadGives (Then First Next) Wider old new (Err halt)
-first_halts First Next Fails Wider old new (Bad fault text) wider h = (h.0, only_first _ First Next _ h.1)
-first_halts First Next Fails Wider old new (Unread file) wider h = (h.0, wider file h.1)
-first_halts First Next Fails Wider old new Memory wider h = h
+first_stops First Next Fails Wider old new (Bad fault text) wider h = (h.0, only_first _ First Next _ h.1)
+first_stops First Next Fails Wider old new (Unread file) wider h = (h.0, wider file h.1)
+first_stops First Next Fails Wider old new Memory wider h = h
 
 -- a step after one that gave a value
 then_states : {V W : Type 0} (First : Outcome V → Type 0) (Next : V → Outcome W → Type 0) (value : V) (outcome : Outcome W) → First (Ok value) → Next value outcome → Then First Next outcome
@@ -183,7 +183,7 @@ at_old : {V W : Type 0} (First : Outcome V → Type 0) (Next : World → V → O
 at_old First Next old mid value outcome rests first one =
     only_then _ First (Next old.world) value outcome first (subst (λ (w : World). IsOnly (IsSome w.files) (Next w value) outcome) rests.world one)
 
-pub then_reads : {V W : Type 0} (First : Outcome V → Type 0) (Next : World → V → Outcome W → Type 0) (Fails Wider : InputFile → Type 0) (old mid new : State) (value : V) (r : Result W Halt)
+pub then_reads : {V W : Type 0} (First : Outcome V → Type 0) (Next : World → V → Outcome W → Type 0) (Fails Wider : InputFile → Type 0) (old mid new : State) (value : V) (r : Result W NoValue)
     → Rests old mid → IsOnly (IsSome old.world.files) First (Ok value) → ((file : InputFile) → Fails file → Wider file)
     → ReadGives (Next mid.world value) Fails mid new r → ReadGives (Then First (Next old.world)) Wider old new r
 then_reads First Next Fails Wider old mid new value (Ok next) rests first wider h = (rests_then old mid new rests h.0, at_old First Next old mid value (Ok next) rests first h.1)
@@ -196,7 +196,7 @@ then_reads First Next Fails Wider old mid new value (Err Memory) rests first wid
 known_anyway : {V : Type 0} (Known : Type 0) (States : Outcome V → Type 0) (outcome : Outcome V) → IsOnly (Unit {0}) States outcome → IsOnly Known States outcome
 known_anyway Known States outcome one = record { states = one.states; alone = λ known. one.alone tt }
 
-pub then_answers : {V W : Type 0} (First : Outcome V → Type 0) (Next : V → Outcome W → Type 0) (Fails : InputFile → Type 0) (old new : State) (value : V) (r : Result W Halt)
+pub then_answers : {V W : Type 0} (First : Outcome V → Type 0) (Next : V → Outcome W → Type 0) (Fails : InputFile → Type 0) (old new : State) (value : V) (r : Result W NoValue)
     → Rests old new → IsOnly (IsSome old.world.files) First (Ok value) → Answers (Next value) r → ReadGives (Then First Next) Fails old new r
 then_answers First Next Fails old new value (Ok next) rests first h = (rests, only_then _ First Next value (Ok next) first (known_anyway _ _ _ h))
 then_answers First Next Fails old new value (Err (Bad fault text)) rests first h = (rests, only_then _ First Next value _ first (known_anyway _ _ _ h))

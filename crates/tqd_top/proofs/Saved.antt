@@ -9,9 +9,10 @@ use Rattle.tqd_base.specs.Calls.{Closes, Makes, Puts, PutsPrefix, Rests}
 use Rattle.tqd_base.proofs.Worlds.{same_world, set_slot-same, set_slot-set_slot, slots-set_slot-same}
 use Rattle.tqd_base.proofs.DeskLemmas.{same_faults, writes_some}
 use Rattle.tqd_base.proofs.Written.{put_slots}
-use Rattle.tqd_top.specs.declared.answer.Lost.{Lost}
-use Rattle.tqd_top.specs.declared.answer.Lost.TheVariants.{Tree, Memory}
-use Rattle.tqd_top.specs.Saves.{CloseTreeGives, FillGives, Fills, FillsPrefix, IsCutShort, IsSteady, MakeTreeGives, PutTreeGives, SaveGivenGives, SaveGives, saved}
+use Rattle.tqd_top.specs.declared.answer.NoReply.{NoReply}
+use Rattle.tqd_top.specs.declared.answer.NoReply.TheVariants.{Tree, Memory}
+use Rattle.tqd_top.specs.Inner.Saving.{CloseTreeGives, FillGives, Fills, FillsPrefix, IsSteady, MakeTreeGives, PutTreeGives, SaveGivenGives, SaveGives}
+use Rattle.tqd_top.specs.SavedTree.{IsCutShort, saved}
 use Rattle.tqd_top.proofs.Readings.{falls_never, rose_before, rose_later}
 
 -- a file that is made, and then grows by a piece, has the piece
@@ -66,7 +67,7 @@ fills_by old mid new slot piece p c = record {
   steady = record { kept = c.kept ∙ p.kept; never_fall = falls_never _ mid.faults _ p.never_fall c.never_fall };
 }
 
-pub put_closed : (old mid new : State) (slot : ℕ) (text : Bytes) (r : Result (Unit {0}) Lost) → Puts old mid slot text → CloseTreeGives mid new slot r → FillGives old new slot text r
+pub put_closed : (old mid new : State) (slot : ℕ) (text : Bytes) (r : Result (Unit {0}) NoReply) → Puts old mid slot text → CloseTreeGives mid new slot r → FillGives old new slot text r
 put_closed old mid new slot text (Ok done) p c = fills_by old mid new slot text p c
 put_closed old mid new slot text (Err Tree) p c = (
   rose_later old.faults.writing mid.faults.writing new.faults.writing p.never_fall.writing c.0,
@@ -74,7 +75,7 @@ put_closed old mid new slot text (Err Tree) p c = (
 )
 put_closed old mid new slot text (Err Memory) p c = absurd c
 
-closes_by : (old new : State) (slot : ℕ) (r : Result (Unit {0}) Lost) → CloseTreeGives old new slot r → Closes old new slot
+closes_by : (old new : State) (slot : ℕ) (r : Result (Unit {0}) NoReply) → CloseTreeGives old new slot r → Closes old new slot
 closes_by old new slot (Ok done) c = c
 closes_by old new slot (Err Tree) c = c.1
 closes_by old new slot (Err Memory) c = absurd c
@@ -82,7 +83,7 @@ closes_by old new slot (Err Memory) c = absurd c
 fills_prefix : (old mid new : State) (slot : ℕ) (text : Bytes) → PutsPrefix old mid slot text → Closes mid new slot → FillsPrefix old new slot text
 fills_prefix old mid new slot text p c = (p.0, p.1, fills_by old mid new slot (take p.0 text) p.2 c)
 
-pub put_lost : (old mid new : State) (slot : ℕ) (text : Bytes) (lost : Lost) (r : Result (Unit {0}) Lost) → PutTreeGives old mid slot text (Err lost) → CloseTreeGives mid new slot r
+pub put_lost : (old mid new : State) (slot : ℕ) (text : Bytes) (lost : NoReply) (r : Result (Unit {0}) NoReply) → PutTreeGives old mid slot text (Err lost) → CloseTreeGives mid new slot r
     → FillGives old new slot text (Err lost)
 put_lost old mid new slot text Tree r p c =
     let closes = closes_by mid new slot r c in
@@ -96,7 +97,7 @@ steady_made old mid new name slot m s = steady_then old mid new (record { kept =
 cut_short : (old mid new : State) (name : Name) (slot : ℕ) (text : Bytes) → Makes old mid name slot → FillsPrefix mid new slot text → IsCutShort old.world new.world name text
 cut_short old mid new name slot text m f = inr (f.0, f.1, filled_world old.world mid.world new.world name (take f.0 text) slot m.fresh m.world f.2.world)
 
-pub made_filled : (old mid new : State) (name : Name) (slot : ℕ) (text : Bytes) (r : Result (Unit {0}) Lost) → Makes old mid name slot → FillGives mid new slot text r
+pub made_filled : (old mid new : State) (name : Name) (slot : ℕ) (text : Bytes) (r : Result (Unit {0}) NoReply) → Makes old mid name slot → FillGives mid new slot text r
     → SaveGives old new name text r
 made_filled old mid new name slot text (Ok done) m f =
     (steady_made old mid new name slot m f.steady, filled_world old.world mid.world new.world name text slot m.fresh m.world f.world)
@@ -107,12 +108,12 @@ made_filled old mid new name slot text (Err Tree) m f = (
 )
 made_filled old mid new name slot text (Err Memory) m f = (steady_made old mid new name slot m f.2.steady, cut_short old mid new name slot text m f)
 
-pub not_made : (old new : State) (name : Name) (text : Bytes) (lost : Lost) → MakeTreeGives old new name (Err lost) → SaveGives old new name text (Err lost)
+pub not_made : (old new : State) (name : Name) (text : Bytes) (lost : NoReply) → MakeTreeGives old new name (Err lost) → SaveGives old new name text (Err lost)
 not_made old new name text Tree m = (steady_rests old new m.1, m.0, inl m.1.world)
 not_made old new name text Memory m = (steady_rests old new m, inl m.world)
 
 -- in a file that is given, or in none
-pub saved_given : (old new : State) (name : Name) (text : Bytes) (r : Result (Unit {0}) Lost) → SaveGives old new name text r → SaveGivenGives old new (Some name) text r
+pub saved_given : (old new : State) (name : Name) (text : Bytes) (r : Result (Unit {0}) NoReply) → SaveGives old new name text r → SaveGivenGives old new (Some name) text r
 unfolding saved
 saved_given old new name text (Ok done) s = s
 saved_given old new name text (Err Tree) s = (s.0, s.1, (name, refl, s.2))
@@ -123,7 +124,7 @@ unfolding saved
 saved_none s text done = (steady_same s, refl)
 
 -- a slot that was written to is open
-pub slot_after : (old mid : State) (slot : ℕ) (text : Bytes) (r : Result (Unit {0}) Lost) → Writes (old.world.slots slot) → PutTreeGives old mid slot text r → IsSome (mid.world.slots slot)
+pub slot_after : (old mid : State) (slot : ℕ) (text : Bytes) (r : Result (Unit {0}) NoReply) → Writes (old.world.slots slot) → PutTreeGives old mid slot text r → IsSome (mid.world.slots slot)
 slot_after old mid slot text (Ok done) writes p = subst (λ (s : Option Slot). IsSome s) (sym (put_slots old mid slot text slot p)) (writes_some _ writes)
 slot_after old mid slot text (Err Tree) writes p = subst (λ (s : Option Slot). IsSome s) (sym (put_slots old mid slot _ slot p.1.2)) (writes_some _ writes)
 slot_after old mid slot text (Err Memory) writes p = subst (λ (s : Option Slot). IsSome s) (sym (put_slots old mid slot _ slot p.2)) (writes_some _ writes)

@@ -4,15 +4,20 @@ use Rattle.std.specs.Prelude.{Result, Ok, Err, IfOk, IfSome, MatchOption}
 use Rattle.std.specs.Option.{option_map}
 use Rattle.tqd_base.specs.declared.memory.Memory.{Memory as NoMemory}
 use Rattle.tqd_base.specs.World.{State, Name, Bytes}
+use Rattle.tqd_base.specs.Calls.{Puts, PutsPrefix}
+use Rattle.tqd_instance.specs.Purchase.{Purchase}
+use Rattle.interval_box.specs.declared.boxes.IntervalBox.{IntervalBox}
 use Rattle.tqd_instance.specs.declared.job.Job.{Job}
 use Rattle.tqd_instance.specs.declared.plan.Plan.{Plan}
 use Rattle.tqd_instance.specs.Plan.{units}
 use Rattle.tqd_instance.specs.Cost.{cost}
 use Rattle.tqd_instance.specs.Least.{Least, HasNoPurchase}
 use Rattle.interval_box.specs.Ranges.{IsRoot}
-use Rattle.bound_tree.specs.declared.leaf.TreeNode.{TreeNode}
-use Rattle.bound_tree.specs.BoxTree.{IsValid}
-use Rattle.bound_tree.specs.TreeText.{tree_text}
+use Rattle.bound_tree.specs.BoxTree.{BoxTree, IsValid}
+use Rattle.bound_tree.specs.Root.{root_of}
+use Rattle.bound_tree.specs.Shared.{AreRootNodes, IsTreeOf}
+use Rattle.bound_tree.proofs.Roots.{root_is_value}
+use Rattle.bound_tree.proofs.ValidTrees.{valid_is_tree}
 use Rattle.search_book.specs.declared.finish.Finished.{Finished}
 use Rattle.search_book.specs.Nodes.{area_of}
 use Rattle.search_book.specs.BookState.{BookState}
@@ -23,12 +28,14 @@ use Rattle.order_gen.specs.GenParts.{IsGenJob}
 use Rattle.plan_report.specs.AnswerText.{summary_text}
 use Rattle.tqd_top.specs.MakeAnswer.{SumsUp}
 use Rattle.tqd_top.specs.declared.answer.Answer.{Answer}
-use Rattle.tqd_top.specs.declared.answer.Lost.{Lost}
-use Rattle.tqd_top.specs.declared.answer.Lost.TheVariants.{Tree, Memory}
+use Rattle.tqd_top.specs.declared.answer.NoReply.{NoReply}
+use Rattle.tqd_top.specs.declared.answer.NoReply.TheVariants.{Tree, Memory}
 use Rattle.tqd_top.specs.declared.reading.JobRead.{JobRead}
-use Rattle.tqd_top.specs.Certificate.{Certifies, IsFinished, IsSolution, bought_by}
-use Rattle.tqd_top.specs.Saves.{IsSteady, SaveGivenGives}
-use Rattle.tqd_top.specs.SolveAnswer.{IsSolved, SolveGives, SolvesJob, solution_answer, solution_text}
+use Rattle.tqd_top.specs.Certificate.{certificate_text, Certifies}
+use Rattle.tqd_top.specs.Inner.Solution.{certificate_of, IsFinished, IsSolution, bought_by}
+use Rattle.tqd_top.specs.Inner.Saving.{IsSteady, SaveGivenGives}
+use Rattle.tqd_top.specs.Solves.{IsSolved, SolvesJob}
+use Rattle.tqd_top.specs.Inner.Solving.{SolveGives, solution_answer, solution_text}
 use Rattle.tqd_top.proofs.Saved.{steady_same}
 
 -- what a settled book decides of its best plan
@@ -48,12 +55,12 @@ finished_by s done decides plan_is stands root tree =
     let decided = subst (λ (best : Option (Plan × ℕ)). MatchOption best (HasNoPurchase s.job) (λ b. Least s.job (units b.0) × (b.1 ≡ cost s.job (units b.0)))) (sym plan_is) decides in
     record {
       solution = solution_by s.job done.plan decided stands;
+      tree = tree.tree;
+      nodes_are = tree.nodes_are;
       certifies = record {
         root = area_of s.nodes 0;
         is_root = root;
-        tree = tree.tree;
         valid = subst (λ (best : Option ℕ). IsValid s.job best (area_of s.nodes 0) tree.tree) (ap (option_map (λ b. b.1)) (sym plan_is) ∙ costs_by s.job done.plan decided) tree.valid;
-        nodes_are = tree.nodes_are;
       };
     }
 
@@ -63,36 +70,53 @@ pub finished : (job : Job) (s : BookState) (r : Result Finished NoMemory) → s.
 finished job s (Ok done) job_is decides plan_is stands root tree = subst (λ (j : Job). IsFinished j done) job_is (finished_by s done decides plan_is stands root tree)
 finished job s (Err stop) job_is decides plan_is stands root tree = tt
 
--- the answer of a solution is one to the job
-solves_plan : (read : JobRead) (plan : Option (Plan × ℕ)) (nodes : List TreeNode) → IsSolution read.job plan → Certifies read.job (bought_by plan) nodes
-    → SolvesJob read (solution_answer plan) (solution_text read plan) (tree_text read.job (bought_by plan) nodes)
-solves_plan read None nodes s c = (s, refl, record { nodes = nodes; certifies = c; text_is = refl })
-solves_plan read (Some best) nodes s c = (s, refl, record { nodes = nodes; certifies = c; text_is = refl })
+-- a tree that certifies a solution is one of the root, and so are its nodes
+pub certified_root : (job : Job) (best : Option Purchase) (tree : BoxTree) → Certifies job best tree → IsTreeOf job (root_of job) tree
+certified_root job best tree c =
+    subst (λ (area : IntervalBox). IsTreeOf job area tree) (root_is_value job c.root c.is_root) (valid_is_tree job c.root (option_map (cost job) best) tree c.valid)
 
-pub solved_saved : (read : JobRead) (old new : State) (file : Option Name) (done : Finished) (answer : Answer) (text : Bytes) (saved : Unit {0}) → IsFinished read.job done
-    → answer ≡ solution_answer done.plan → text ≡ solution_text read done.plan → SaveGivenGives old new file (tree_text read.job (bought_by done.plan) done.tree) (Ok saved)
+pub finished_nodes : (job : Job) (done : Finished) → IsFinished job done → AreRootNodes job done.tree
+finished_nodes job done f = record { tree = f.tree; of_root = certified_root job (bought_by done.plan) f.tree f.certifies; nodes_are = f.nodes_are }
+
+-- what was written is the text of the certificate
+pub wrote_certificate : (job : Job) (done : Finished) (old new : State) (slot : ℕ) (plan : Option Purchase) (f : IsFinished job done) → plan ≡ bought_by done.plan
+    → Puts old new slot (certificate_text job plan f.tree) → Puts old new slot (certificate_of job done f)
+wrote_certificate job done old new slot plan f same p = subst (λ (best : Option Purchase). Puts old new slot (certificate_text job best f.tree)) same p
+
+pub wrote_prefix : (job : Job) (done : Finished) (old new : State) (slot : ℕ) (plan : Option Purchase) (f : IsFinished job done) → plan ≡ bought_by done.plan
+    → PutsPrefix old new slot (certificate_text job plan f.tree) → PutsPrefix old new slot (certificate_of job done f)
+wrote_prefix job done old new slot plan f same p = subst (λ (best : Option Purchase). PutsPrefix old new slot (certificate_text job best f.tree)) same p
+
+-- the answer of a solution is one to the job
+solves_plan : (read : JobRead) (plan : Option (Plan × ℕ)) (tree : BoxTree) → IsSolution read.job plan → Certifies read.job (bought_by plan) tree
+    → SolvesJob read (solution_answer plan) (solution_text read plan) (certificate_text read.job (bought_by plan) tree)
+solves_plan read None tree s c = (s, refl, record { tree = tree; certifies = c; text_is = refl })
+solves_plan read (Some best) tree s c = (s, refl, record { tree = tree; certifies = c; text_is = refl })
+
+pub solved_saved : (read : JobRead) (old new : State) (file : Option Name) (done : Finished) (answer : Answer) (text : Bytes) (saved : Unit {0}) → (f : IsFinished read.job done)
+    → answer ≡ solution_answer done.plan → text ≡ solution_text read done.plan → SaveGivenGives old new file (certificate_of read.job done f) (Ok saved)
     → IsSteady old new × IsSolved read old.world new.world file answer text
 solved_saved read old new file done answer text saved f answer_is text_is s =
-    let certificate = tree_text read.job (bought_by done.plan) done.tree in (
+    let certificate = certificate_of read.job done f in (
       s.0,
       record {
         certificate = certificate;
         solves = subst (λ (a : Answer). SolvesJob read a text certificate) (sym answer_is)
-            (subst (λ (t : Bytes). SolvesJob read (solution_answer done.plan) t certificate) (sym text_is) (solves_plan read done.plan done.tree f.solution f.certifies));
+            (subst (λ (t : Bytes). SolvesJob read (solution_answer done.plan) t certificate) (sym text_is) (solves_plan read done.plan f.tree f.solution f.certifies));
         saves = s.1;
       },
     )
 
-pub solved_lost : (read : JobRead) (old new : State) (file : Option Name) (done : Finished) (lost : Lost) → IsFinished read.job done
-    → SaveGivenGives old new file (tree_text read.job (bought_by done.plan) done.tree) (Err lost) → SolveGives read old new file (Err lost)
+pub solved_lost : (read : JobRead) (old new : State) (file : Option Name) (done : Finished) (lost : NoReply) → (f : IsFinished read.job done)
+    → SaveGivenGives old new file (certificate_of read.job done f) (Err lost) → SolveGives read old new file (Err lost)
 solved_lost read old new file done Tree f s = (
   s.0,
   s.1,
   record {
     answer = solution_answer done.plan;
     text = solution_text read done.plan;
-    certificate = tree_text read.job (bought_by done.plan) done.tree;
-    solves = solves_plan read done.plan done.tree f.solution f.certifies;
+    certificate = certificate_of read.job done f;
+    solves = solves_plan read done.plan f.tree f.solution f.certifies;
     cut = s.2;
   },
 )
@@ -101,8 +125,8 @@ solved_lost read old new file done Memory f s = (
   inr (record {
     answer = solution_answer done.plan;
     text = solution_text read done.plan;
-    certificate = tree_text read.job (bought_by done.plan) done.tree;
-    solves = solves_plan read done.plan done.tree f.solution f.certifies;
+    certificate = certificate_of read.job done f;
+    solves = solves_plan read done.plan f.tree f.solution f.certifies;
     cut = s.1;
   }),
 )

@@ -10,7 +10,7 @@ use Rattle.tqd_top.specs.declared.reading.NeedsRead.{NeedsRead}
 use Rattle.tqd_top.specs.declared.reading.OffersRead.{OffersRead}
 use Rattle.tqd_top.specs.Words.{FilesNamed}
 use Rattle.tqd_top.specs.JobOf.{NeedsOf, OffersOf, OrdersOf}
-use Rattle.tqd_top.specs.Steps.{IsFileUnread}
+use Rattle.tqd_top.specs.Inner.Steps.{IsFileUnread}
 use Rattle.tqd_top.specs.Unread.{FailsAtGiven, IsUnread, IsUnreadBill}
 use Rattle.tqd_top.proofs.Readings.{fails_later}
 

@@ -15,7 +15,7 @@ use Rattle.tqd_top.specs.declared.answer.Answer.TheVariants.{Solved, Infeasible,
 use Rattle.tqd_top.specs.declared.reading.NeedsRead.{NeedsRead}
 use Rattle.tqd_top.specs.declared.reading.JobRead.{JobRead}
 use Rattle.tqd_top.specs.Reads.{ReadsAs}
-use Rattle.tqd_top.specs.JobOf.{Outcome, Told}
+use Rattle.tqd_top.specs.JobOf.{Outcome, FaultLine}
 
 -- no count of faults rose
 pub record IsFaultless (old new : State) : Type 0 where
@@ -24,12 +24,13 @@ pub record IsFaultless (old new : State) : Type 0 where
   pub printing : Rose old.faults.printing new.faults.printing → ⊥
 
 -- the fault of the files
-abbrev pub IsAnswerToFault : Told → Answer → Type 0
+abbrev pub IsAnswerToFault : FaultLine → Answer → Type 0
 IsAnswerToFault told (BadInput fault) = told.fault ≡ fault
 IsAnswerToFault told Memory = Unit {0}
 IsAnswerToFault told _ = ⊥
 
--- `solve`, where the files state a job or a fault: a least purchase, or that there is none, for this very job; or the fault
+-- `solve`, where the files state a job or a fault: a least purchase, or that there is none, for this very job; or the
+-- fault
 abbrev pub IsAnswerToSolve : Outcome JobRead → Answer → Type 0
 IsAnswerToSolve (Err told) answer = IsAnswerToFault told answer
 IsAnswerToSolve (Ok read) (Solved plan amount) = Least read.job (units plan)
@@ -37,7 +38,8 @@ IsAnswerToSolve (Ok read) Infeasible = HasNoPurchase read.job
 IsAnswerToSolve (Ok read) Memory = Unit {0}
 IsAnswerToSolve (Ok read) _ = ⊥
 
--- `check`, where the files state a job and this is the text of the tree: what the text shows of the job; or that it is too long
+-- `check`, where the files state a job and this is the text of the tree: what the text shows of the job; or that it is
+-- too long
 abbrev pub IsAnswerToText : Job → Bytes → Answer → Type 0
 IsAnswerToText job text (Accepted cost) = verdict job text ≡ Optimal cost
 IsAnswerToText job text AcceptedNone = verdict job text ≡ NoPurchase
@@ -49,7 +51,8 @@ IsAnswerToText job text _ = ⊥
 -- and where they state a fault
 abbrev pub IsAnswerToCheck : Bool → World → Name → Outcome JobRead → Answer → Type 0
 IsAnswerToCheck absent_is_empty w tree (Err told) answer = IsAnswerToFault told answer
-IsAnswerToCheck absent_is_empty w tree (Ok read) answer = (text : Bytes) → ReadsAs absent_is_empty w tree text → IsAnswerToText read.job text answer
+IsAnswerToCheck absent_is_empty w tree (Ok read) answer =
+    (text : Bytes) → ReadsAs absent_is_empty w tree text → IsAnswerToText read.job text answer
 
 -- `needs`, where the files state needs or a fault
 abbrev pub IsAnswerToNeeds : Outcome NeedsRead → Answer → Type 0

@@ -1,19 +1,13 @@
--- The command that the words of a command line give. A word is the list of its bytes, and `-` in place of some files
--- says that there is no such file.
-use Rattle.std.specs.Prelude.{ℕ, ◌≡◌, ◌⊎◌, ◌&&◌, ◌||◌, if◌then◌else◌, List, [], ◌∷◌, Option, Some, None, option_and_then, codes}
+-- The command that the words of a command line are.
+use Rattle.std.specs.Prelude.{ℕ, ◌≡◌, ◌⊎◌, List, [], ◌∷◌, Option, Some, None, option_and_then}
 use Rattle.std.specs.Option.{option_copied}
-use Rattle.money.specs.Number.{qty_of}
-use Rattle.tqd_base.specs.declared.limits.TheConstants.{GOODS_MAX, SUPPLIERS_MAX, WORKERS_MAX}
 use Rattle.tqd_base.specs.World.{Name}
-use Rattle.tqd_top.specs.declared.words.TheConstants.{SEED_MAX}
 use Rattle.tqd_top.specs.declared.words.JobFiles.{JobFiles}
 use Rattle.tqd_top.specs.declared.words.Command.{Command}
 use Rattle.tqd_top.specs.declared.words.Command.TheVariants.{Solve, Check, Needs, Make}
-use Rattle.tqd_top.specs.Text.{same}
-
-infixl 10 ◌>>=◌
-abbrev pub ◌>>=◌ : {A B : Type 0} → Option A → (A → Option B) → Option B
-o >>= f = option_and_then f o
+use Rattle.tqd_top.specs.declared.form.Verb.{Verb}
+use Rattle.tqd_top.specs.declared.form.Verb.TheVariants.{Solve as OfSolve, Check as OfCheck, Needs as OfNeeds, Make as OfMake}
+use Rattle.tqd_top.specs.Forms.{file_of, number_of, verb_of}
 
 -- the files that state a job
 pub record FilesNamed : Type 0 where
@@ -22,93 +16,49 @@ pub record FilesNamed : Type 0 where
   pub offers : Name
   pub terms : Option Name
 
--- to solve a job, with a tree or without, by so many workers; to check a tree against a job; to list the needs of orders and a bill;
--- to solve a made job with this seed and so many goods and suppliers
+-- to solve a job, with a tree or without, by so many workers; to check a tree against a job; to list the needs of
+-- orders and a bill; to solve a made job with this seed and so many goods and suppliers
 pub data Asked : Type 0 where
   ToSolve : FilesNamed → Option Name → ℕ → Asked
   ToCheck : FilesNamed → Name → Asked
   ToNeed : Name → Option Name → Asked
   ToMake : ℕ → ℕ → ℕ → Asked
 
--- the file that a word names, if it names one
-unfoldable pub file_of : Name → Option Name
-file_of word = if same word [] || same word (codes "-") then None else Some word
-
--- the file that a word names, where `-` names none; the empty word is refused
-unfoldable pub optional_of : Name → Option (Option Name)
-optional_of word = if same word [] then None else Some (file_of word)
-
 -- ORDERS BILL OFFERS TERMS
-unfoldable pub files_of : Name → Name → Name → Name → Option FilesNamed
-files_of orders bill offers terms = do
-  o ← file_of orders
-  b ← optional_of bill
-  f ← file_of offers
-  t ← optional_of terms
-  Some (record { orders = o; bill = b; offers = f; terms = t })
+abbrev pub files_of : Name → Name → Name → Name → FilesNamed
+files_of orders bill offers terms =
+    record { orders = orders; bill = file_of bill; offers = offers; terms = file_of terms }
 
--- ORDERS BILL OFFERS TERMS TREE of `solve`, by so many workers
-unfoldable pub solve_of : Option FilesNamed → Name → ℕ → Option Asked
-solve_of given tree workers = do
-  files ← given
-  t ← optional_of tree
-  Some (ToSolve files t workers)
+-- N of `--workers N`; without the option there is one worker
+unfoldable pub workers_of : List Name → ℕ
+workers_of (option ∷ number ∷ []) = number_of number
+workers_of _ = 1
 
--- and N of `--workers`, from 1 to 64
-unfoldable pub workers_of : Option FilesNamed → Name → Name → Option Asked
-workers_of files tree workers = do
-  n ← qty_of 1 WORKERS_MAX workers
-  solve_of files tree n
+-- what words that are of a form ask for
+unfoldable pub asked_by : Verb → List Name → Option Asked
+asked_by OfSolve (first ∷ orders ∷ bill ∷ offers ∷ terms ∷ tree ∷ option) =
+    Some (ToSolve (files_of orders bill offers terms) (file_of tree) (workers_of option))
+asked_by OfCheck (first ∷ orders ∷ bill ∷ offers ∷ terms ∷ tree ∷ []) =
+    Some (ToCheck (files_of orders bill offers terms) tree)
+asked_by OfNeeds (first ∷ orders ∷ bill ∷ []) = Some (ToNeed orders (file_of bill))
+asked_by OfMake (first ∷ seed ∷ goods ∷ suppliers ∷ []) =
+    Some (ToMake (number_of seed) (number_of goods) (number_of suppliers))
+asked_by _ _ = None
 
--- ORDERS BILL OFFERS TERMS TREE of `check`
-unfoldable pub check_of : Option FilesNamed → Name → Option Asked
-check_of given tree = do
-  files ← given
-  t ← file_of tree
-  Some (ToCheck files t)
-
--- ORDERS BILL of `needs`
-unfoldable pub needs_of : Name → Name → Option Asked
-needs_of orders bill = do
-  o ← file_of orders
-  b ← optional_of bill
-  Some (ToNeed o b)
-
--- SEED GOODS SUPPLIERS of `make`
-unfoldable pub make_of : Name → Name → Name → Option Asked
-make_of seed goods suppliers = do
-  s ← qty_of 0 SEED_MAX seed
-  g ← qty_of 1 GOODS_MAX goods
-  n ← qty_of 1 SUPPLIERS_MAX suppliers
-  Some (ToMake s g n)
-
--- the commands of three, four, six and eight words; without `--workers` there is one worker
-unfoldable pub three_of : Name → Name → Name → Option Asked
-three_of command orders bill = if same command (codes "needs") then needs_of orders bill else None
-
-unfoldable pub four_of : Name → Name → Name → Name → Option Asked
-four_of command seed goods suppliers = if same command (codes "make") then make_of seed goods suppliers else None
-
-unfoldable pub six_of : Name → Option FilesNamed → Name → Option Asked
-six_of command files tree =
-    if same command (codes "solve") then solve_of files tree 1 else
-    if same command (codes "check") then check_of files tree else None
-
-unfoldable pub eight_of : Name → Option FilesNamed → Name → Name → Name → Option Asked
-eight_of command files tree option workers =
-    if same command (codes "solve") && same option (codes "--workers") then workers_of files tree workers else None
-
--- the command that the words give, or None where they are of no form
+-- the command that the words are, or None where they are of no form
 unfoldable pub command_of : List Name → Option Asked
-command_of (command ∷ orders ∷ bill ∷ []) = three_of command orders bill
-command_of (command ∷ seed ∷ goods ∷ suppliers ∷ []) = four_of command seed goods suppliers
-command_of (command ∷ orders ∷ bill ∷ offers ∷ terms ∷ tree ∷ []) = six_of command (files_of orders bill offers terms) tree
-command_of (command ∷ orders ∷ bill ∷ offers ∷ terms ∷ tree ∷ option ∷ workers ∷ []) = eight_of command (files_of orders bill offers terms) tree option workers
-command_of _ = None
+command_of words = option_and_then (λ verb. asked_by verb words) (verb_of words)
 
--- the same in plain data
+-- a command of the code in plain data
 abbrev pub files_named : JobFiles → FilesNamed
-files_named files = record { orders = files.orders.now; bill = option_copied files.bill; offers = files.offers.now; terms = option_copied files.terms }
+files_named files =
+    record {
+      orders = files.orders.now;
+      bill = option_copied files.bill;
+      offers = files.offers.now;
+      terms =
+          option_copied files.terms;
+    }
 
 abbrev pub asked : Command → Asked
 asked (Solve files tree workers) = ToSolve (files_named files) (option_copied tree) workers
@@ -139,7 +89,8 @@ IsNoForm words = command_of words ≡ None
 
 -- a name of a file that states a job
 abbrev pub IsFileOf : FilesNamed → Name → Type 0
-IsFileOf files name = (name ≡ files.orders) ⊎ ((Some name ≡ files.bill) ⊎ ((name ≡ files.offers) ⊎ (Some name ≡ files.terms)))
+IsFileOf files name =
+    (name ≡ files.orders) ⊎ ((Some name ≡ files.bill) ⊎ ((name ≡ files.offers) ⊎ (Some name ≡ files.terms)))
 
 -- a name that a command reads
 abbrev pub IsReadBy : Asked → Name → Type 0

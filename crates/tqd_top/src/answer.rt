@@ -4,14 +4,14 @@ use tqd_instance::Plan;
 use tree_checker::Rejection;
 
 /// Where a command writes: the file of the tree, or the output.
-#[derive(Clone, Copy, Debug, PartialEq, Eq)]
+#[derive(Clone, Copy, PartialEq, Eq)]
 pub enum Target {
     Tree,
     Out,
 }
 
 /// How a command ended.
-#[derive(Debug, Drop)]
+#[derive(Drop)]
 pub enum Answer {
     /// A least purchase, and its cost in millionths of the currency.
     Solved(Plan, u128),
@@ -38,33 +38,33 @@ pub enum Answer {
 }
 
 /// How a command ended, and the status that the program ends with.
-#[derive(Debug, Drop)]
+#[derive(Drop)]
 pub struct Ended {
     pub status: u8,
     pub answer: Answer,
 }
 
 /// Why a command has no text to print: the tree could not be written whole, or memory was wanting.
-#[derive(Clone, Copy, Debug, PartialEq, Eq)]
-pub(crate) enum Lost {
+#[derive(Clone, Copy)]
+pub(crate) enum NoReply {
     Tree,
     Memory,
 }
 
-impl From<Memory> for Lost {
+impl From<Memory> for NoReply {
     ghost use Rattle.std.specs.Prelude.{◌≡◌};
-    ghost use Rattle.tqd_top.specs.declared.answer.Lost.TheVariants.{Memory};
+    ghost use Rattle.tqd_top.specs.declared.answer.NoReply.TheVariants.{Memory};
 
     ghost from_gives = { λ _ e. e ≡ Memory };
 
-    fn from(_error: Memory) -> Lost {
-        Lost::Memory
+    fn from(_error: Memory) -> NoReply {
+        NoReply::Memory
     }
 }
 
 /// An answer with the text that is to be printed.
-#[derive(Debug, Drop)]
-pub struct Found {
+#[derive(Drop)]
+pub struct Reply {
     pub answer: Answer,
     pub text: Vec<u8>,
 }

@@ -1,14 +1,15 @@
 //! The command `check`.
 ghost use Rattle.std.specs.Prelude.{◌≡◌, IfOk, List, Some};
 ghost use Rattle.tqd_base.specs.World.{Name, Reads};
-ghost use Rattle.tqd_top.specs.CheckAnswer.{CheckFileGives, CheckSlotGives, OpenTreeGives, StopHalts, VerdictAnswer};
-ghost use Rattle.tqd_top.specs.Runs.{Lists, VerdictGives};
+ghost use Rattle.tqd_top.specs.Inner.Checking.{CheckFileGives, CheckSlotGives, OpenTreeGives, CheckStopGives};
+ghost use Rattle.tqd_top.specs.Shows.{VerdictAnswer};
+ghost use Rattle.tqd_top.specs.Inner.Runs.{PlainReplies, VerdictGives};
 ghost use Rattle.tqd_top.specs.Words.{ToCheck, command_of, files_named};
 
-use crate::answer::{Answer, Found};
-use crate::halt::{Halt, bad};
+use crate::answer::{Answer, Reply};
 use crate::job::read_job;
-use crate::text::found_halt;
+use crate::no_value::{NoValue, bad};
+use crate::text::reply_without_value;
 use crate::words::JobFiles;
 use plan_report::{FileFault, InputFile, accepted_text, rejection_text};
 use std::alloc::Global;
@@ -17,30 +18,35 @@ use tqd_instance::Job;
 use tree_checker::{CheckStop, Verdict, check_from};
 
 // Opens the file of a tree.
-fn open_tree<D: Desk>(alloc: Global, desk: &mut D, name: &str) -> Result<u32, Halt>
+fn open_tree<D: Desk>(alloc: Global, desk: &mut D, name: &str) -> Result<u32, NoValue>
     ensures { OpenTreeGives D.absent_is_empty (D.state desk.old) (D.state desk.new) name.now result }
 {
     match desk.open(alloc, name) {
         Ok(slot) => Ok(slot),
-        Err(DeskStop::Failed) => Err(Halt::Unread(InputFile::Tree)),
-        Err(DeskStop::Memory) => Err(Halt::Memory),
+        Err(DeskStop::Failed) => Err(NoValue::Unread(InputFile::Tree)),
+        Err(DeskStop::Memory) => Err(NoValue::Memory),
     }
 }
 
 // What halts a check that stopped.
-fn verdict_or_halt(alloc: Global, checked: Result<Verdict, CheckStop>) -> Result<Verdict, Halt>
-    ensures { StopHalts checked result }
+fn verdict_or_halt(alloc: Global, checked: Result<Verdict, CheckStop>) -> Result<Verdict, NoValue>
+    ensures { CheckStopGives checked result }
 {
     match checked {
         Ok(verdict) => Ok(verdict),
-        Err(CheckStop::Fault) => Err(Halt::Unread(InputFile::Tree)),
+        Err(CheckStop::Fault) => Err(NoValue::Unread(InputFile::Tree)),
         Err(CheckStop::Size) => Err(bad(alloc, FileFault::Size(InputFile::Tree))),
-        Err(CheckStop::Memory) => Err(Halt::Memory),
+        Err(CheckStop::Memory) => Err(NoValue::Memory),
     }
 }
 
 // What the text that a slot has left shows of a job. The slot is closed.
-fn check_slot<D: Desk>(alloc: Global, job: &Job, desk: &mut D, slot: u32) -> Result<Verdict, Halt>
+fn check_slot<D: Desk>(
+    alloc: Global,
+    job: &Job,
+    desk: &mut D,
+    slot: u32,
+) -> Result<Verdict, NoValue>
     requires { Reads ((D.state desk.old).world.slots slot) }
     ensures { CheckSlotGives job.now (D.state desk.old) (D.state desk.new) slot result }
 {
@@ -55,7 +61,7 @@ pub(crate) fn check_file<D: Desk>(
     job: &Job,
     desk: &mut D,
     tree: &str,
-) -> Result<Verdict, Halt>
+) -> Result<Verdict, NoValue>
     ensures { CheckFileGives D.absent_is_empty job.now (D.state desk.old) (D.state desk.new) tree.now result }
 {
     let slot = open_tree(alloc, desk, tree)?;
@@ -68,35 +74,36 @@ fn read_verdict<D: Desk>(
     desk: &mut D,
     files: &JobFiles<'_>,
     tree: &str,
-) -> Result<Verdict, Halt>
-    ensures { VerdictGives D.absent_is_empty (D.state desk.old) (D.state desk.new) (files_named files.now) tree.now result }
+) -> Result<Verdict, NoValue>
+    ensures { VerdictGives D.absent_is_empty (D.state desk.old) (D.state desk.new)
+        (files_named files.now) tree.now result }
 {
     let read = read_job(alloc, desk, files)?;
     check_file(alloc, &read.job, desk, tree)
 }
 
 // The answer for a verdict.
-fn verdict_found(alloc: Global, verdict: Verdict) -> Result<Found, Memory>
-    ensures { IfOk result (λ found. VerdictAnswer verdict found.answer found.text.items) }
+fn verdict_reply(alloc: Global, verdict: Verdict) -> Result<Reply, Memory>
+    ensures { IfOk result (λ reply. VerdictAnswer verdict reply.answer reply.text.items) }
 {
     match verdict {
         Verdict::Optimal(cost) => {
             let text = accepted_text(alloc, Some(cost))?;
-            Ok(Found {
+            Ok(Reply {
                 answer: Answer::Accepted(cost),
                 text,
             })
         }
         Verdict::NoPurchase => {
             let text = accepted_text(alloc, None)?;
-            Ok(Found {
+            Ok(Reply {
                 answer: Answer::AcceptedNone,
                 text,
             })
         }
         Verdict::Rejected(rejection) => {
             let text = rejection_text(alloc, &rejection)?;
-            Ok(Found {
+            Ok(Reply {
                 answer: Answer::Rejected(rejection),
                 text,
             })
@@ -105,17 +112,17 @@ fn verdict_found(alloc: Global, verdict: Verdict) -> Result<Found, Memory>
 }
 
 // The answer for the names of the files of a job and of a tree.
-pub(crate) fn find_check<D: Desk>(
+pub(crate) fn check<D: Desk>(
     alloc: Global,
     desk: &mut D,
     files: &JobFiles<'_>,
     tree: &str,
-) -> Result<Found, Memory>
+) -> Result<Reply, Memory>
     ensures { (words : List Name) → command_of words ≡ Some (ToCheck (files_named files.now) tree.now)
-        → Lists D.absent_is_empty (D.state desk.old) (D.state desk.new) words result }
+        → PlainReplies D.absent_is_empty (D.state desk.old) (D.state desk.new) words result }
 {
     match read_verdict(alloc, desk, files, tree) {
-        Ok(verdict) => verdict_found(alloc, verdict),
-        Err(halt) => found_halt(alloc, halt),
+        Ok(verdict) => verdict_reply(alloc, verdict),
+        Err(no_value) => reply_without_value(alloc, no_value),
     }
 }

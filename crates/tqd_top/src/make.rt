@@ -4,21 +4,21 @@ ghost use Rattle.tqd_base.specs.declared.limits.TheConstants.{GOODS_MAX, SUPPLIE
 ghost use Rattle.tqd_top.specs.MakeAnswer.{SumsUp};
 ghost use Rattle.tqd_top.specs.declared.answer.Answer.TheVariants.{Listed};
 
-use crate::answer::{Answer, Found};
-use crate::search::search;
+use crate::answer::{Answer, Reply};
+use crate::solution::search;
 use order_gen::make_job;
 use plan_report::summary_text;
 use std::alloc::Global;
 use tqd_base::Memory;
 
 /// The summary of a made job, with the cost of a least purchase of it.
-pub(crate) fn make(alloc: Global, seed: u64, goods: u64, suppliers: u64) -> Result<Found, Memory>
+pub(crate) fn make(alloc: Global, seed: u64, goods: u64, suppliers: u64) -> Result<Reply, Memory>
     requires some_goods { 1 ≤ goods }
     requires few_goods { goods ≤ GOODS_MAX }
     requires some_suppliers { 1 ≤ suppliers }
     requires few_suppliers { suppliers ≤ SUPPLIERS_MAX }
-    ensures answer { IfOk result (λ found. found.answer ≡ Listed) }
-    ensures text { IfOk result (λ found. SumsUp seed goods suppliers found.text.items) }
+    ensures answer { IfOk result (λ reply. reply.answer ≡ Listed) }
+    ensures text { IfOk result (λ reply. SumsUp seed goods suppliers reply.text.items) }
 {
     let job = make_job(alloc, seed, goods, suppliers)?;
     let done = search(alloc, &job)?;
@@ -27,7 +27,7 @@ pub(crate) fn make(alloc: Global, seed: u64, goods: u64, suppliers: u64) -> Resu
         unreachable!()
     };
     let text = summary_text(alloc, seed, goods, suppliers, cost)?;
-    Ok(Found {
+    Ok(Reply {
         answer: Answer::Listed,
         text,
     })

@@ -1,17 +1,17 @@
 ghost use Rattle.std.specs.Prelude.{◌≡◌, List, map, string_bytes};
 ghost use Rattle.tqd_base.specs.World.{IsIdle, Name, State};
-ghost use Rattle.tqd_top.specs.Answers.{status_of};
+ghost use Rattle.tqd_top.specs.Causes.{status_of};
 ghost use Rattle.tqd_top.specs.Headline.{IsProgramRun};
-ghost use Rattle.tqd_top.specs.Runs.{EndGives, Finds, PrintGives};
+ghost use Rattle.tqd_top.specs.Inner.Runs.{EndGives, Replies, PrintGives};
 
-use crate::answer::{Answer, Ended, Found, Lost, Target};
-use crate::check::find_check;
+use crate::answer::{Answer, Ended, NoReply, Reply, Target};
+use crate::check::check;
 use crate::make::make;
-use crate::needs::find_needs;
-use crate::solve::{find_solve, find_solve_by};
-use crate::text::or_lost;
+use crate::needs::needs;
+use crate::solve::{solve, solve_by};
+use crate::text::or_no_reply;
+use crate::usage::usage_text;
 use crate::words::{Command, read_words};
-use plan_report::usage_text;
 use search_run::Gate;
 use std::alloc::Global;
 use std::sync::Wait;
@@ -19,36 +19,36 @@ use std::thread::Threads;
 use tqd_base::{Desk, DeskStop};
 use verdict_laws::laws;
 
-// The answer that the words and the files call for, with its text; its tree is saved where the words ask for that.
-fn find<D: Desk>(alloc: Global, words: &[String], desk: &mut D) -> Result<Found, Lost>
+// The reply that the words and the files call for; its tree is saved where the words ask for that.
+fn reply_to<D: Desk>(alloc: Global, words: &[String], desk: &mut D) -> Result<Reply, NoReply>
     requires { IsIdle (D.state desk.old).world }
-    ensures { Finds D.absent_is_empty (D.state desk.old) (D.state desk.new) (map string_bytes words.now) result }
+    ensures { Replies D.absent_is_empty (D.state desk.old) (D.state desk.new) (map string_bytes words.now) result }
 {
     let Some(command) = read_words(words) else {
         let text = usage_text(alloc)?;
-        return Ok(Found {
+        return Ok(Reply {
             answer: Answer::Words,
             text,
         });
     };
     match command {
-        Command::Solve { files, tree, .. } => find_solve(alloc, desk, &files, tree),
-        Command::Check { files, tree } => or_lost(find_check(alloc, desk, &files, tree)),
-        Command::Needs { orders, bill } => or_lost(find_needs(alloc, desk, orders, bill)),
+        Command::Solve { files, tree, .. } => solve(alloc, desk, &files, tree),
+        Command::Check { files, tree } => or_no_reply(check(alloc, desk, &files, tree)),
+        Command::Needs { orders, bill } => or_no_reply(needs(alloc, desk, orders, bill)),
         Command::Make {
             seed,
             goods,
             suppliers,
-        } => or_lost(make(alloc, seed, goods, suppliers)),
+        } => or_no_reply(make(alloc, seed, goods, suppliers)),
     }
 }
 
 // Prints the text of an answer; where that fails, the answer is the fault.
-fn print<D: Desk>(desk: &mut D, found: Found) -> Answer
-    ensures { PrintGives (D.state desk.old) (D.state desk.new) found.answer found.text.items result }
+fn print<D: Desk>(desk: &mut D, reply: Reply) -> Answer
+    ensures { PrintGives (D.state desk.old) (D.state desk.new) reply.answer reply.text.items result }
 {
-    match desk.out(&found.text) {
-        Ok(()) => found.answer,
+    match desk.out(&reply.text) {
+        Ok(()) => reply.answer,
         Err(DeskStop::Failed) => Answer::WriteFault(Target::Out),
         Err(DeskStop::Memory) => Answer::Memory,
     }
@@ -73,51 +73,52 @@ fn status(answer: &Answer) -> u8
     }
 }
 
-// Prints what was found, if anything was.
-fn answer<D: Desk>(desk: &mut D, found: Result<Found, Lost>) -> Answer
-    ensures { EndGives (D.state desk.old) (D.state desk.new) found result }
+// Prints the reply, if there is one.
+fn answer<D: Desk>(desk: &mut D, reply: Result<Reply, NoReply>) -> Answer
+    ensures { EndGives (D.state desk.old) (D.state desk.new) reply result }
 {
-    match found {
-        Ok(found) => print(desk, found),
-        Err(Lost::Tree) => Answer::WriteFault(Target::Tree),
-        Err(Lost::Memory) => Answer::Memory,
+    match reply {
+        Ok(reply) => print(desk, reply),
+        Err(NoReply::Tree) => Answer::WriteFault(Target::Tree),
+        Err(NoReply::Memory) => Answer::Memory,
     }
 }
 
-// Prints what was found, and so ends the run of the words that called for it.
-fn end<D: Desk>(desk: &mut D, found: Result<Found, Lost>) -> Ended
-    ensures { (old : State) (words : List Name) → IsIdle old.world → Finds D.absent_is_empty old (D.state desk.old) words found
+// Prints the reply, and so ends the run of the words that call for it.
+fn end<D: Desk>(desk: &mut D, reply: Result<Reply, NoReply>) -> Ended
+    ensures { (old : State) (words : List Name) → IsIdle old.world
+        → Replies D.absent_is_empty old (D.state desk.old) words reply
         → IsProgramRun D.absent_is_empty old (D.state desk.new) words result }
 {
     laws::verdicts_are_exact();
     laws::yes_is_sound();
-    let answer = answer(desk, found);
+    let answer = answer(desk, reply);
     Ended {
         status: status(&answer),
         answer,
     }
 }
 
-/// Runs the command that the words give, on the caller's thread, whatever the number of workers. It waits for nobody and
-/// always returns.
+/// Runs the command that the words give, on the caller's thread, whatever the number of workers. It waits for nobody
+/// and always returns.
 ///
 /// `solve ORDERS BILL OFFERS TERMS TREE` finds a least purchase of the job that the files state, writes the tree that
 /// certifies it, and prints it. `check ORDERS BILL OFFERS TERMS TREE` says what the text of a tree shows of the job.
-/// `needs ORDERS BILL` prints what is needed of each part that has to be bought. `make SEED GOODS SUPPLIERS` makes a job,
-/// solves it and sums it up. Words that are of no form print the usage. Every answer but WriteFault and Memory prints its
-/// text as the last act; if that fails, the answer is WriteFault(Out). No file changes but the TREE of `solve`. The desk is
-/// handed in without an open slot, and has none at the end.
+/// `needs ORDERS BILL` prints what is needed of each part that has to be bought. `make SEED GOODS SUPPLIERS` makes a
+/// job, solves it and sums it up. Words that are of no form print the usage. Every answer but WriteFault and Memory
+/// prints its text as the last act; if that fails, the answer is WriteFault(Out). No file changes but the TREE of
+/// `solve`. The desk is handed in without an open slot, and has none at the end.
 pub fn run_plain<D: Desk>(alloc: Global, words: &[String], desk: &mut D) -> Ended
     requires { IsIdle (D.state desk.old).world }
     ensures { IsProgramRun D.absent_is_empty (D.state desk.old) (D.state desk.new) (map string_bytes words.now) result }
 {
-    let found = find(alloc, words, desk);
-    end(desk, found)
+    let reply = reply_to(alloc, words, desk);
+    end(desk, reply)
 }
 
-/// Runs the command that the words give, as [`run_plain`] does, but that the workers of `solve --workers N`, where they are
-/// two or more, are threads, each of which passes the gate before each box. Only then may it wait; what it promises then
-/// holds if it returns.
+/// Runs the command that the words give, as [`run_plain`] does, but that the workers of `solve --workers N`, where they
+/// are two or more, are threads, each of which passes the gate before each box. Only then may it wait; what it promises
+/// then holds if it returns.
 pub fn run<R: Threads + Wait + Sync, D: Desk, G: Gate + Sync>(
     rt: &R,
     alloc: Global,
@@ -137,8 +138,8 @@ pub fn run<R: Threads + Wait + Sync, D: Desk, G: Gate + Sync>(
             },
         ) if workers >= 2 => {
             let number = workers as u32;
-            let found = find_solve_by(rt, alloc, desk, &files, tree, number, gate);
-            end(desk, found)
+            let solved = solve_by(rt, alloc, desk, &files, tree, number, gate);
+            end(desk, solved)
         }
         _ => run_plain(alloc, words, desk),
     }

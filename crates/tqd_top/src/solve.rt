@@ -3,18 +3,18 @@ ghost use Rattle.std.specs.Prelude.{ℕ, ◌≡◌, ◌≤◌, List, Some};
 ghost use Rattle.std.specs.Option.{option_copied};
 ghost use Rattle.std.specs.Result.{ForOk};
 ghost use Rattle.tqd_base.specs.World.{IsIdle, Name};
-ghost use Rattle.tqd_top.specs.Certificate.{IsFinished};
-ghost use Rattle.tqd_top.specs.ReadBook.{IsReadJob};
-ghost use Rattle.tqd_top.specs.SolveAnswer.{SolveGives};
+ghost use Rattle.tqd_top.specs.Inner.Solution.{IsFinished};
+ghost use Rattle.tqd_top.specs.Inner.ReadBook.{IsReadJob};
+ghost use Rattle.tqd_top.specs.Inner.Solving.{SolveGives};
 ghost use Rattle.tqd_top.specs.Words.{ToSolve, command_of, files_named};
-ghost use Rattle.tqd_top.specs.Runs.{Finds};
+ghost use Rattle.tqd_top.specs.Inner.Runs.{Replies};
 
-use crate::answer::{Found, Lost};
+use crate::answer::{NoReply, Reply};
 use crate::job::read_job;
 use crate::reading::JobRead;
 use crate::save::save_given;
-use crate::search::{search, search_by, solution_answer, solution_text};
-use crate::text::{found_halt, or_lost};
+use crate::solution::{search, search_by, solution_answer, solution_text};
+use crate::text::{or_no_reply, reply_without_value};
 use crate::words::JobFiles;
 use search_book::Finished;
 use search_run::Gate;
@@ -23,14 +23,15 @@ use std::sync::Wait;
 use std::thread::Threads;
 use tqd_base::{Desk, Memory};
 
-// The answer for a job that was searched. Its text is made first, and then the tree is saved where a file is given for it.
+// The answer for a job that was searched. Its text is made first, and then the tree is saved where a file is given for
+// it.
 fn solve_job<D: Desk>(
     alloc: Global,
     desk: &mut D,
     read: &JobRead,
     tree: Option<&str>,
     searched: Result<Finished, Memory>,
-) -> Result<Found, Lost>
+) -> Result<Reply, NoReply>
     requires idle { IsIdle (D.state desk.old).world }
     requires facts { IsReadJob read.now }
     requires finished { ForOk searched (IsFinished read.now.job) }
@@ -39,34 +40,35 @@ fn solve_job<D: Desk>(
     let done = searched?;
     let text = solution_text(alloc, read, &done.plan)?;
     save_given(alloc, &read.job, &done, desk, tree)?;
-    Ok(Found {
+    Ok(Reply {
         answer: solution_answer(done.plan),
         text,
     })
 }
 
 // The answer for the names of the files of a job, with its tree saved in a file or not.
-pub(crate) fn find_solve<D: Desk>(
+pub(crate) fn solve<D: Desk>(
     alloc: Global,
     desk: &mut D,
     files: &JobFiles<'_>,
     tree: Option<&str>,
-) -> Result<Found, Lost>
+) -> Result<Reply, NoReply>
     requires { IsIdle (D.state desk.old).world }
-    ensures { (words : List Name) (workers : ℕ) → command_of words ≡ Some (ToSolve (files_named files.now) (option_copied tree.entry) workers)
-        → Finds D.absent_is_empty (D.state desk.old) (D.state desk.new) words result }
+    ensures { (words : List Name) (workers : ℕ)
+        → command_of words ≡ Some (ToSolve (files_named files.now) (option_copied tree.entry) workers)
+        → Replies D.absent_is_empty (D.state desk.old) (D.state desk.new) words result }
 {
     match read_job(alloc, desk, files) {
         Ok(read) => {
             let searched = search(alloc, &read.job);
             solve_job(alloc, desk, &read, tree, searched)
         }
-        Err(halt) => or_lost(found_halt(alloc, halt)),
+        Err(no_value) => or_no_reply(reply_without_value(alloc, no_value)),
     }
 }
 
 // The same, found by 1 to 64 workers, each of which passes the gate before each box.
-pub(crate) fn find_solve_by<R: Threads + Wait + Sync, D: Desk, G: Gate + Sync>(
+pub(crate) fn solve_by<R: Threads + Wait + Sync, D: Desk, G: Gate + Sync>(
     rt: &R,
     alloc: Global,
     desk: &mut D,
@@ -74,18 +76,19 @@ pub(crate) fn find_solve_by<R: Threads + Wait + Sync, D: Desk, G: Gate + Sync>(
     tree: Option<&str>,
     workers: u32,
     gate: &G,
-) -> Result<Found, Lost>
+) -> Result<Reply, NoReply>
     requires idle { IsIdle (D.state desk.old).world }
     requires some { 1 ≤ workers }
     requires few { workers ≤ 64 }
-    ensures { (words : List Name) (asked : ℕ) → command_of words ≡ Some (ToSolve (files_named files.now) (option_copied tree.entry) asked)
-        → Finds D.absent_is_empty (D.state desk.old) (D.state desk.new) words result }
+    ensures { (words : List Name) (asked : ℕ)
+        → command_of words ≡ Some (ToSolve (files_named files.now) (option_copied tree.entry) asked)
+        → Replies D.absent_is_empty (D.state desk.old) (D.state desk.new) words result }
 {
     match read_job(alloc, desk, files) {
         Ok(read) => {
             let searched = search_by(rt, alloc, &read.job, workers, gate);
             solve_job(alloc, desk, &read, tree, searched)
         }
-        Err(halt) => or_lost(found_halt(alloc, halt)),
+        Err(no_value) => or_no_reply(reply_without_value(alloc, no_value)),
     }
 }

@@ -1,39 +1,39 @@
-//! Answers whose text is fixed or told by a halt.
+//! Replies where files gave no value.
 ghost use Rattle.std.specs.Prelude.{◌≡◌};
-ghost use Rattle.tqd_top.specs.Runs.{HaltFound, or_lost};
+ghost use Rattle.tqd_top.specs.Inner.Runs.{ReplyWithoutValue, or_no_reply};
 
-use crate::answer::{Answer, Found, Lost};
-use crate::halt::Halt;
+use crate::answer::{Answer, NoReply, Reply};
+use crate::no_value::NoValue;
 use plan_report::unread_text;
 use std::alloc::Global;
 use tqd_base::Memory;
 
 // The answer where the files gave no value.
-pub(crate) fn found_halt(alloc: Global, halt: Halt) -> Result<Found, Memory>
-    ensures { HaltFound halt result }
+pub(crate) fn reply_without_value(alloc: Global, no_value: NoValue) -> Result<Reply, Memory>
+    ensures { ReplyWithoutValue no_value result }
 {
-    match halt {
-        Halt::Bad(fault, text) => Ok(Found {
+    match no_value {
+        NoValue::Bad(fault, text) => Ok(Reply {
             answer: Answer::BadInput(fault),
             text,
         }),
-        Halt::Unread(file) => {
+        NoValue::Unread(file) => {
             let text = unread_text(alloc, file)?;
-            Ok(Found {
+            Ok(Reply {
                 answer: Answer::ReadFault(file),
                 text,
             })
         }
-        Halt::Memory => Err(Memory),
+        NoValue::Memory => Err(Memory),
     }
 }
 
-// What a command that saves nothing found, as one that may.
-pub(crate) fn or_lost(found: Result<Found, Memory>) -> Result<Found, Lost>
-    ensures { result ≡ or_lost found }
+// The reply of a command that saves nothing, as one that may.
+pub(crate) fn or_no_reply(reply: Result<Reply, Memory>) -> Result<Reply, NoReply>
+    ensures { result ≡ or_no_reply reply }
 {
-    match found {
-        Ok(found) => Ok(found),
-        Err(_) => Err(Lost::Memory),
+    match reply {
+        Ok(reply) => Ok(reply),
+        Err(_) => Err(NoReply::Memory),
     }
 }

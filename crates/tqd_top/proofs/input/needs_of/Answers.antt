@@ -5,8 +5,8 @@ use Rattle.tqd_base.specs.World.{Bytes}
 use Rattle.plan_report.specs.FaultText.{fault_text}
 use Rattle.plan_report.specs.declared.fault.FileFault.TheVariants.{Explode as InExplosion}
 use Rattle.tqd_top.specs.JobOf.{told_by_bill}
-use Rattle.tqd_top.specs.Steps.{HaltsAt}
-use Rattle.tqd_top.proofs.Readings.{answers_halt}
+use Rattle.tqd_top.specs.Inner.Steps.{StopsAt}
+use Rattle.tqd_top.proofs.Readings.{answers_stop}
 use Rattle.tqd_top.proofs.OneOutcome.{explode_named, one_explosion}
 use Rattle.tqd_top.proofs.input.needs_of.Goals as goal
 
@@ -20,5 +20,5 @@ pub returns-in-Err-Refused : goal.returns-in-Err-Refused
 returns-in-Err-Refused c =
     let fault = c.in-Err-Refused.fault in
     let told = told_by_bill c.args.bill (InExplosion fault) in
-    answers_halt _ told _ (one_explosion c.args.bill c.names-names.ensures.kept (Err told) (fault, refl, rw c.in-Err-Refused.field-0-is at c.in-Err-Refused.ensures))
-    (subst (λ (names : List Bytes). HaltsAt (record { fault = InExplosion fault; text = fault_text names [] [] (InExplosion fault) }) c.bad_parts.result) c.names-names.ensures.value c.bad_parts.ensures)
+    answers_stop _ told _ (one_explosion c.args.bill c.names-names.ensures.kept (Err told) (fault, refl, rw c.in-Err-Refused.field-0-is at c.in-Err-Refused.ensures))
+    (subst (λ (names : List Bytes). StopsAt (record { fault = InExplosion fault; text = fault_text names [] [] (InExplosion fault) }) c.bad_parts.result) c.names-names.ensures.value c.bad_parts.ensures)

@@ -2,7 +2,7 @@
 use Rattle.std.proofs.lemmas.Result.{err_from_is_err_and}
 use Rattle.std.specs.Option.{option_copied}
 use Rattle.tqd_top.specs.JobOf.{BillGives, OrdersOf}
-use Rattle.tqd_top.proofs.Readings.{first_halts, then_reads}
+use Rattle.tqd_top.proofs.Readings.{first_stops, then_reads}
 use Rattle.tqd_top.proofs.Unreads.{unread_bill, unread_orders}
 use Rattle.tqd_top.proofs.input.read_bill_files.Goals as goal
 
@@ -10,17 +10,17 @@ pub returns-in_err-orders : goal.returns-in_err-orders
 returns-in_err-orders g c =
     let a = g.D.Desk.absent_is_empty in
     let old = g.D.Desk.state c.args.desk.now in
-    let new = g.D.Desk.state c.read_orders_file.new.desk in
+    let new = g.D.Desk.state c.read_file.new.desk in
     let bill = option_copied c.args.bill in
     let p = err_from_is_err_and c.from_residual.result c.from_residual.ensures.1 in
-    rw (p.1, p.2) (first_halts (OrdersOf a old.world c.args.orders.now) (BillGives a old.world bill) _ _ old new _
+    rw (p.1, p.2) (first_stops (OrdersOf a old.world c.args.orders.now) (BillGives a old.world bill) _ _ old new _
     (unread_orders a old new c.args.orders.now bill) c.in_err-orders.ensures)
 
 pub returns : goal.returns
 returns g c =
     let a = g.D.Desk.absent_is_empty in
     let old = g.D.Desk.state c.args.desk.now in
-    let mid = g.D.Desk.state c.read_orders_file.new.desk in
+    let mid = g.D.Desk.state c.read_file.new.desk in
     let new = g.D.Desk.state c.read_given_bill.new.desk in
     let bill = option_copied c.args.bill in
     let read = c.in_ok-orders.ensures in

@@ -4,4 +4,4 @@ use Rattle.tqd_top.proofs.Unreads.{given_file}
 use Rattle.tqd_top.proofs.input.read_given_bill.Goals as goal
 
 pub returns-in-Some : goal.returns-in-Some
-returns-in-Some g c = rw c.in-Some.is (fails_as _ _ _ _ _ _ (given_file _ _ _ _) c.read_bill_file.ensures)
+returns-in-Some g c = rw c.in-Some.is (fails_as _ _ _ _ _ _ (given_file _ _ _ _) c.read_file.ensures)

@@ -5,7 +5,7 @@ use Rattle.tqd_instance.specs.PartsData.{PartsData}
 use Rattle.tqd_instance.specs.Built.{IsJobOf, Passes, Refuses}
 use Rattle.plan_report.specs.declared.fault.FileFault.TheVariants.{Job as InJob}
 use Rattle.tqd_top.specs.JobOf.{told_by_offers}
-use Rattle.tqd_top.proofs.Readings.{answers_halt}
+use Rattle.tqd_top.proofs.Readings.{answers_stop}
 use Rattle.tqd_top.proofs.OneOutcome.{one_job}
 use Rattle.tqd_top.proofs.ReadFacts.{job_fault_named}
 use Rattle.tqd_top.proofs.job.job_of.Goals as goal
@@ -25,5 +25,5 @@ pub returns-in-Err-Refused : goal.returns-in-Err-Refused
 returns-in-Err-Refused c =
     let fault = c.in-Err-Refused.fault in
     let told = told_by_offers c.args.read (InJob fault) in
-    answers_halt _ told _ (one_job c.args.read c.parts.ensures.kept.formed (Err told)
+    answers_stop _ told _ (one_job c.args.read c.parts.ensures.kept.formed (Err told)
     (fault, refl, subst (λ (parts : PartsData). Refuses parts fault) c.parts.ensures.value (rw c.in-Err-Refused.field-0-is at c.in-Err-Refused.ensures.refused))) c.bad_offers.ensures

@@ -4,4 +4,4 @@ use Rattle.tqd_top.proofs.Unreads.{given_file}
 use Rattle.tqd_top.proofs.job.read_given_terms.Goals as goal
 
 pub returns-in-Some : goal.returns-in-Some
-returns-in-Some g c = rw c.in-Some.is (fails_as _ _ _ _ _ _ (given_file _ _ _ _) c.read_terms_file.ensures)
+returns-in-Some g c = rw c.in-Some.is (fails_as _ _ _ _ _ _ (given_file _ _ _ _) c.read_file.ensures)

@@ -2,7 +2,7 @@
 use Rattle.std.proofs.lemmas.Result.{err_from_is_err_and}
 use Rattle.tqd_top.specs.Words.{files_named}
 use Rattle.tqd_top.specs.JobOf.{JobGives, TermsOf}
-use Rattle.tqd_top.proofs.Readings.{first_halts, then_answers}
+use Rattle.tqd_top.proofs.Readings.{first_stops, then_answers}
 use Rattle.tqd_top.proofs.ReadFacts.{terms_facts}
 use Rattle.tqd_top.proofs.job.read_job.Goals as goal
 
@@ -15,7 +15,7 @@ returns-in_err-read g c =
     let old = g.D.Desk.state c.args.desk.now in
     let new = g.D.Desk.state c.read_term_files.new.desk in
     let p = err_from_is_err_and c.from_residual.result c.from_residual.ensures.1 in
-    rw (p.1, p.2) (first_halts (TermsOf a old.world (files_named c.args.files.now)) JobGives _ _ old new _ (λ file fails. fails) c.in_err-read.ensures)
+    rw (p.1, p.2) (first_stops (TermsOf a old.world (files_named c.args.files.now)) JobGives _ _ old new _ (λ file fails. fails) c.in_err-read.ensures)
 
 pub returns : goal.returns
 returns g c =

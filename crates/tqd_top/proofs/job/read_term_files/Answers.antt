@@ -2,7 +2,7 @@
 use Rattle.std.proofs.lemmas.Result.{err_from_is_err_and}
 use Rattle.tqd_top.specs.Words.{files_named}
 use Rattle.tqd_top.specs.JobOf.{OffersOf, TermsGive}
-use Rattle.tqd_top.proofs.Readings.{first_halts, then_reads}
+use Rattle.tqd_top.proofs.Readings.{first_stops, then_reads}
 use Rattle.tqd_top.proofs.ReadFacts.{offers_facts}
 use Rattle.tqd_top.proofs.Unreads.{unread_terms}
 use Rattle.tqd_top.proofs.job.read_term_files.Goals as goal
@@ -20,7 +20,7 @@ returns-in_err-read g c =
     let new = g.D.Desk.state c.read_offer_files.new.desk in
     let files = files_named c.args.files.now in
     let p = err_from_is_err_and c.from_residual.result c.from_residual.ensures.1 in
-    rw (p.1, p.2) (first_halts (OffersOf a old.world files) (TermsGive a old.world files.terms) _ _ old new _ (λ file fails. fails) c.in_err-read.ensures)
+    rw (p.1, p.2) (first_stops (OffersOf a old.world files) (TermsGive a old.world files.terms) _ _ old new _ (λ file fails. fails) c.in_err-read.ensures)
 
 pub returns : goal.returns
 returns g c =

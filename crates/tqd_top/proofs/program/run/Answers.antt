@@ -1,4 +1,4 @@
--- The number of workers is within its range, and what they found ends the run.
+-- The number of workers is within its range, and their reply ends the run.
 use Rattle.std.proofs.Common.{ℕ, ◌≡◌, Option, Some, List, sym, ◌∙◌, ap, arith, Bor}
 use Rattle.std.specs.Option.{option_copied, option_map}
 use Rattle.tqd_base.specs.World.{Name}
@@ -19,12 +19,12 @@ overflow_cast-number g c =
     let w = c.in-Some-Solve in
     omega (arith, (ranged _ _ (solves _ c.read_words.result w.field-0 w.files w.tree w.workers c.read_words.ensures w.is w.field-0-is)).below)
 
-pub find_solve_by-found-requires-clause-few : goal.find_solve_by-found-requires-clause-few
-find_solve_by-found-requires-clause-few g c =
+pub solve_by-solved-requires-clause-few : goal.solve_by-solved-requires-clause-few
+solve_by-solved-requires-clause-few g c =
     let w = c.in-Some-Solve in
     λ κs live. (ranged _ _ (solves _ c.read_words.result w.field-0 w.files w.tree w.workers c.read_words.ensures w.is w.field-0-is)).below
 
 pub returns-in-Some-Solve : goal.returns-in-Some-Solve
 returns-in-Some-Solve g c =
     let w = c.in-Some-Solve in
-    c.end.ensures _ _ c.requires (c.find_solve_by-found.ensures _ w.workers (solves _ c.read_words.result w.field-0 w.files w.tree w.workers c.read_words.ensures w.is w.field-0-is))
+    c.end.ensures _ _ c.requires (c.solve_by-solved.ensures _ w.workers (solves _ c.read_words.result w.field-0 w.files w.tree w.workers c.read_words.ensures w.is w.field-0-is))

@@ -1,5 +1,5 @@
--- What was found ends the run.
+-- The reply ends the run.
 use Rattle.tqd_top.proofs.program.run_plain.Goals as goal
 
 pub returns : goal.returns
-returns g c = c.end.ensures _ _ c.requires c.find-found.ensures
+returns g c = c.end.ensures _ _ c.requires c.reply_to-reply.ensures

@@ -11,8 +11,8 @@ returns-in_err-done g c =
 pub solution_text-requires-clause-solution : goal.solution_text-requires-clause-solution
 solution_text-requires-clause-solution g c = (c.requires.finished _ c.in_ok-done.was).solution
 
-pub save_given-requires-clause-solution : goal.save_given-requires-clause-solution
-save_given-requires-clause-solution g c = (c.requires.finished _ c.in_ok-done.was).solution
+pub save_given-requires-clause-finished : goal.save_given-requires-clause-finished
+save_given-requires-clause-finished g c = c.requires.finished _ c.in_ok-done.was
 
 pub returns-in_err-text : goal.returns-in_err-text
 returns-in_err-text g c =
@@ -22,7 +22,10 @@ returns-in_err-text g c =
 pub returns-in_err-save_given : goal.returns-in_err-save_given
 returns-in_err-save_given g c =
     let p = err_from_is_err_and c.from_residual-in_err-save_given.result c.from_residual-in_err-save_given.ensures.1 in
-    rw (p.1, p.2) (solved_lost _ _ _ _ _ _ (c.requires.finished _ c.in_ok-done.was) c.in_err-save_given.ensures)
+    let f = c.requires.finished _ c.in_ok-done.was in
+    rw (p.1, p.2) (solved_lost _ _ _ _ _ _ f (c.in_err-save_given.ensures f))
 
 pub returns : goal.returns
-returns g c = solved_saved _ _ _ _ _ _ _ _ (c.requires.finished _ c.in_ok-done.was) c.solution_answer.ensures c.in_ok-text.ensures c.in_ok-save_given.ensures
+returns g c =
+    let f = c.requires.finished _ c.in_ok-done.was in
+    solved_saved _ _ _ _ _ _ _ _ f c.solution_answer.ensures c.in_ok-text.ensures (c.in_ok-save_given.ensures f)

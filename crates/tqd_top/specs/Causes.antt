@@ -1,0 +1,98 @@
+-- Why the answers come that do not speak of a purchase, and the status of each answer.
+use Rattle.std.specs.Prelude.{ℕ, ◌≡◌, ◌⊎◌, Bool, List, Option, Some, IsSome, Ok, Err}
+use Rattle.tqd_base.specs.World.{World, State, Name, Bytes}
+use Rattle.tree_checker.specs.declared.rejection.Verdict.{Verdict}
+use Rattle.plan_report.specs.declared.file.InputFile.{InputFile}
+use Rattle.plan_report.specs.declared.file.InputFile.TheVariants.{Tree as TreeFile}
+use Rattle.plan_report.specs.declared.fault.FileFault.{FileFault}
+use Rattle.plan_report.specs.declared.fault.FileFault.TheVariants.{Size}
+use Rattle.plan_report.specs.NeedsText.{needs_text}
+use Rattle.plan_report.specs.FaultText.{unread_text}
+use Rattle.tqd_top.specs.declared.answer.Answer.{Answer}
+use Rattle.tqd_top.specs.declared.answer.Answer.TheVariants.{Solved, Infeasible, Accepted, AcceptedNone, Rejected, Listed, Words, BadInput, ReadFault, WriteFault, Memory}
+use Rattle.tqd_top.specs.declared.reading.NeedsRead.{NeedsRead}
+use Rattle.tqd_top.specs.declared.reading.JobRead.{JobRead}
+use Rattle.tqd_top.specs.Words.{Asked, FilesNamed, IsCheck, IsInput, IsMake, IsNeeds, ToCheck, ToMake, ToNeed, ToSolve, command_of}
+use Rattle.tqd_top.specs.JobOf.{IsJobOutcome, IsNeedsOutcome, FaultLine, plainly}
+use Rattle.tqd_top.specs.Shows.{IsLongTree, Shows, VerdictAnswer}
+use Rattle.tqd_top.specs.MakeAnswer.{SumsUp}
+use Rattle.tqd_top.specs.Unread.{IsUnreadBy}
+
+-- the status that the program ends with
+abbrev pub status_of : Answer → ℕ
+status_of (Solved plan amount) = 0
+status_of Infeasible = 1
+status_of (Accepted cost) = 0
+status_of AcceptedNone = 1
+status_of (Rejected rejection) = 4
+status_of Listed = 0
+status_of Words = 2
+status_of (BadInput fault) = 3
+status_of (ReadFault file) = 5
+status_of (WriteFault target) = 6
+status_of Memory = 7
+
+-- the words are a `needs`, and its files state these needs
+pub record IsListed (absent_is_empty : Bool) (old : World) (words : List Name) (text : Bytes) : Type 0 where
+  pub orders : Name
+  pub bill : Option Name
+  pub is_needs : IsNeeds words orders bill
+  pub read : NeedsRead
+  pub stated : IsNeedsOutcome absent_is_empty old orders bill (Ok read)
+  pub text_is : text ≡ needs_text read.bill.names read.needs.goods read.needs.units
+
+-- the words are a `make`, and the text sums up its job
+pub record IsMade (words : List Name) (text : Bytes) : Type 0 where
+  pub seed : ℕ
+  pub goods : ℕ
+  pub suppliers : ℕ
+  pub is_make : IsMake words seed goods suppliers
+  pub sums_up : SumsUp seed goods suppliers text
+
+-- the words are a `check`, its files state a job, and this is what the text of the tree shows of it
+pub record IsChecked (absent_is_empty : Bool) (old : World) (words : List Name) (answer : Answer)
+    (text : Bytes) : Type 0 where
+  pub files : FilesNamed
+  pub tree : Name
+  pub is_check : IsCheck words files tree
+  pub read : JobRead
+  pub stated : IsJobOutcome absent_is_empty old files (Ok read)
+  pub shown : Verdict
+  pub shows : Shows absent_is_empty old tree read.job shown
+  pub answers : VerdictAnswer shown answer text
+
+-- the files state a job, and that of the tree is too long
+pub record IsTreeFault (absent_is_empty : Bool) (w : World) (files : FilesNamed) (tree : Name)
+    (told : FaultLine) : Type 0 where
+  pub read : JobRead
+  pub stated : IsJobOutcome absent_is_empty w files (Ok read)
+  pub told_is : told ≡ plainly (Size TreeFile)
+  pub long : IsLongTree absent_is_empty w tree read.job
+
+-- the first fault of the files of a command
+abbrev pub IsFaultOf : Bool → World → Asked → FaultLine → Type 0
+IsFaultOf absent_is_empty w (ToSolve files tree workers) told = IsJobOutcome absent_is_empty w files (Err told)
+IsFaultOf absent_is_empty w (ToCheck files tree) told =
+    IsJobOutcome absent_is_empty w files (Err told) ⊎ IsTreeFault absent_is_empty w files tree told
+IsFaultOf absent_is_empty w (ToNeed orders bill) told = IsNeedsOutcome absent_is_empty w orders bill (Err told)
+IsFaultOf absent_is_empty w (ToMake seed goods suppliers) told = ⊥
+
+pub record IsBadInput (absent_is_empty : Bool) (old : World) (words : List Name) (fault : FileFault)
+    (text : Bytes) : Type 0 where
+  pub command : Asked
+  pub words_are : command_of words ≡ Some command
+  pub stated : IsFaultOf absent_is_empty old command (record { fault = fault; text = text })
+
+-- this file of the words could not be read
+pub record IsReadFault (absent_is_empty : Bool) (old new : State) (words : List Name) (file : InputFile)
+    (text : Bytes) : Type 0 where
+  pub command : Asked
+  pub words_are : command_of words ≡ Some command
+  pub unread : IsUnreadBy absent_is_empty old new command file
+  pub text_is : text ≡ unread_text file
+
+-- where the files are told, the name whose reading failed last is as it was, or one that the command reads
+abbrev pub FailsOnlyInputs : State → State → List Name → Type 0
+FailsOnlyInputs old new words =
+    IsSome old.world.files → (new.failed_last ≡ old.failed_last)
+    ⊎ ((name : Name) × IsInput words name × (new.failed_last ≡ Some name))

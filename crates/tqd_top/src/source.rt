@@ -1,0 +1,67 @@
+//! One step for each file of a command: its bytes are read, and then tested.
+ghost use Rattle.plan_report.specs.declared.file.InputFile.{InputFile};
+ghost use Rattle.tqd_base.specs.World.{Bytes};
+ghost use Rattle.tqd_top.specs.JobOf.{Gives, Outcome, sized};
+ghost use Rattle.tqd_top.specs.Inner.Steps.{InputGives, IsFileUnread, ReadGives, Yields};
+
+use crate::no_value::{NoValue, bad};
+use plan_report::{FileFault, InputFile};
+use std::alloc::Global;
+use tqd_base::limits::FILE_MAX;
+use tqd_base::{Desk, ReadStop, read_all};
+
+/// What a file is read for.
+pub(crate) trait Source: Drop + Sized {
+    /// What its bytes are read as.
+    type Value;
+
+    /// Which file of a command it is.
+    ghost FILE: { InputFile };
+
+    const FILE: InputFile;
+
+    /// What the bytes state: a value, or their first fault.
+    ghost stated: { Self → Bytes → Outcome Self.Value };
+
+    /// What has to hold of the files that were read before.
+    ghost IsReady: { Self → Type 0 };
+
+    /// The value that the bytes state.
+    fn read(self, alloc: Global, bytes: &[u8]) -> Result<Self::Value, NoValue>
+        requires { IsReady self }
+        ensures { Yields (stated self bytes.now) result };
+}
+
+// The bytes of a file, at most 16,777,216.
+fn read_bytes<D: Desk>(
+    alloc: Global,
+    desk: &mut D,
+    file: InputFile,
+    name: &str,
+) -> Result<Vec<u8>, NoValue>
+    ensures { InputGives D.absent_is_empty (D.state desk.old) (D.state desk.new) file name.now result }
+{
+    match read_all(alloc, desk, name, FILE_MAX) {
+        Ok(bytes) => Ok(bytes),
+        Err(ReadStop::Size) => Err(bad(alloc, FileFault::Size(file))),
+        Err(ReadStop::Fault) => Err(NoValue::Unread(file)),
+        Err(ReadStop::Memory) => Err(NoValue::Memory),
+    }
+}
+
+/// What the file of a name states. A fault of the device comes first, then that the file is too long, then a fault of
+/// its form.
+pub(crate) fn read_file<D: Desk, S: Source>(
+    alloc: Global,
+    desk: &mut D,
+    name: &str,
+    source: S,
+) -> Result<S::Value, NoValue>
+    requires { S.IsReady source }
+    ensures { ReadGives (Gives D.absent_is_empty (D.state desk.old).world name.now (sized S.FILE (S.stated source)))
+        (IsFileUnread (D.state desk.old) (D.state desk.new) S.FILE name.now)
+        (D.state desk.old) (D.state desk.new) result }
+{
+    let bytes = read_bytes(alloc, desk, S::FILE, name)?;
+    source.read(alloc, &bytes)
+}
