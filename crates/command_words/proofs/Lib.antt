@@ -1,0 +1,5 @@
+pub mod FormLemmas
+pub mod Splits
+pub mod Comparing
+pub mod Ranges
+pub mod OneForm
