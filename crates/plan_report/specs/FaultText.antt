@@ -12,9 +12,13 @@ use Rattle.plan_report.specs.RowText.{in_row, rows_cause}
 use Rattle.plan_report.specs.OfferText.{offer_cause}
 use Rattle.plan_report.specs.TermText.{term_cause}
 use Rattle.plan_report.specs.declared.file.InputFile.{InputFile}
-use Rattle.plan_report.specs.declared.file.InputFile.TheVariants.{Orders, Bill, Offers, Terms, Tree}
+use Rattle.plan_report.specs.declared.file.InputFile.TheVariants.{Orders, Bill, Offers, Terms, Tree, Old, Scenario}
 use Rattle.plan_report.specs.declared.fault.FileFault.{FileFault}
-use Rattle.plan_report.specs.declared.fault.FileFault.TheVariants.{Size, Orders as InOrders, Bill as InBill, Explode as InExplosion, Offers as InOffers, Terms as InTerms, Job as InJob}
+use Rattle.plan_report.specs.declared.fault.FileFault.TheVariants.{Size, Orders as InOrders, Bill as InBill, Explode as InExplosion, Offers as InOffers, Terms as InTerms, Job as InJob, ScenarioTerms, ScenarioJob, NoSupplier}
+
+-- what belongs to a scenario: a word and the number of the scenario, from 1
+abbrev pub of_scenario : Bytes → ℕ → Bytes
+of_scenario word at = word ++ codes " " ++ decimal at
 
 abbrev pub file_name : InputFile → Bytes
 file_name Orders = codes "orders"
@@ -22,6 +26,8 @@ file_name Bill = codes "bill"
 file_name Offers = codes "offers"
 file_name Terms = codes "terms"
 file_name Tree = codes "tree"
+file_name Old = codes "old tree"
+file_name (Scenario at) = of_scenario (codes "terms") at
 
 abbrev pub size_cause : InputFile → Bytes
 size_cause Tree = codes "more than 4611686018427387904 bytes"
@@ -29,6 +35,8 @@ size_cause Orders = codes "more than 16777216 bytes"
 size_cause Bill = codes "more than 16777216 bytes"
 size_cause Offers = codes "more than 16777216 bytes"
 size_cause Terms = codes "more than 16777216 bytes"
+size_cause Old = codes "more than 268435456 bytes"
+size_cause (Scenario at) = codes "more than 16777216 bytes"
 
 abbrev pub bill_cause : BillFault → Bytes
 bill_cause (Rows fault) = rows_cause fault
@@ -62,6 +70,9 @@ fault_file (InExplosion fault) = codes "bill"
 fault_file (InOffers fault) = codes "offers"
 fault_file (InTerms fault) = codes "terms"
 fault_file (InJob fault) = codes "job"
+fault_file (ScenarioTerms at fault) = of_scenario (codes "terms") at
+fault_file (ScenarioJob at fault) = of_scenario (codes "job") at
+fault_file NoSupplier = codes "offers"
 
 -- what a fault says of it
 abbrev pub fault_cause : List Bytes → List ℕ → List Bytes → FileFault → Bytes
@@ -72,6 +83,9 @@ fault_cause names goods suppliers (InExplosion fault) = explode_cause names faul
 fault_cause names goods suppliers (InOffers fault) = offer_cause fault
 fault_cause names goods suppliers (InTerms fault) = term_cause fault
 fault_cause names goods suppliers (InJob fault) = job_cause names goods suppliers fault
+fault_cause names goods suppliers (ScenarioTerms at fault) = term_cause fault
+fault_cause names goods suppliers (ScenarioJob at fault) = job_cause names goods suppliers fault
+fault_cause names goods suppliers NoSupplier = codes "no such supplier"
 
 unfoldable pub fault_text : List Bytes → List ℕ → List Bytes → FileFault → Bytes
 fault_text names goods suppliers fault = codes "bad input: " ++ fault_file fault ++ codes ": " ++ fault_cause names goods suppliers fault ++ 10 ∷ []
@@ -98,6 +112,9 @@ IsFaultNamed names goods suppliers (InExplosion fault) = IsExplodeFaultNamed nam
 IsFaultNamed names goods suppliers (InOffers fault) = Unit {0}
 IsFaultNamed names goods suppliers (InTerms fault) = Unit {0}
 IsFaultNamed names goods suppliers (InJob fault) = IsJobFaultNamed names goods suppliers fault
+IsFaultNamed names goods suppliers (ScenarioTerms at fault) = Unit {0}
+IsFaultNamed names goods suppliers (ScenarioJob at fault) = IsJobFaultNamed names goods suppliers fault
+IsFaultNamed names goods suppliers NoSupplier = Unit {0}
 
 -- a file that could not be read
 unfoldable pub unread_text : InputFile → Bytes

@@ -1,5 +1,5 @@
 ghost use Rattle.std.specs.Prelude.{◌≡◌, ◌++◌, IfOk, OnOk};
-ghost use Rattle.plan_report.specs.FaultText.{IsExplodeFaultNamed, IsFaultNamed, IsJobFaultNamed, bill_cause, explode_cause, fault_cause, fault_file, fault_text, file_name, job_cause, no_price, size_cause, unread_text};
+ghost use Rattle.plan_report.specs.FaultText.{IsExplodeFaultNamed, IsFaultNamed, IsJobFaultNamed, bill_cause, explode_cause, fault_cause, fault_file, fault_text, file_name, job_cause, no_price, of_scenario, size_cause, unread_text};
 ghost use Rattle.plan_report.specs.OfferText.{offer_cause};
 ghost use Rattle.plan_report.specs.RowText.{in_row, rows_cause};
 ghost use Rattle.plan_report.specs.TermText.{term_cause};
@@ -7,7 +7,7 @@ ghost use Rattle.plan_report.specs.TermText.{term_cause};
 use crate::fault::FileFault;
 use crate::file::InputFile;
 use crate::names::Names;
-use crate::text::{add_number, add_word};
+use crate::text::{add_counted, add_number, add_word};
 use bom_explode::ExplodeFault;
 use bom_reader::{BillFault, NameList};
 use csv_rows::RowFault;
@@ -16,16 +16,26 @@ use std::alloc::Global;
 use tqd_base::Memory;
 use tqd_instance::JobFault;
 
-// The name of a file in a text.
-fn file_name(file: InputFile) -> &'static str
-    ensures { result.now ≡ file_name file }
+// A word and the number of a scenario.
+fn add_scenario(alloc: Global, text: &mut Vec<u8>, word: &str, at: u32) -> Result<(), Memory>
+    ensures { OnOk result (text.new.items ≡ text.old.items ++ of_scenario word.now at) }
+{
+    add_word(text, word)?;
+    add_counted(alloc, text, " ", u128::from(at))
+}
+
+// The name of a file.
+fn add_file(alloc: Global, text: &mut Vec<u8>, file: InputFile) -> Result<(), Memory>
+    ensures { OnOk result (text.new.items ≡ text.old.items ++ file_name file) }
 {
     match file {
-        InputFile::Orders => "orders",
-        InputFile::Bill => "bill",
-        InputFile::Offers => "offers",
-        InputFile::Terms => "terms",
-        InputFile::Tree => "tree",
+        InputFile::Orders => add_word(text, "orders"),
+        InputFile::Bill => add_word(text, "bill"),
+        InputFile::Offers => add_word(text, "offers"),
+        InputFile::Terms => add_word(text, "terms"),
+        InputFile::Tree => add_word(text, "tree"),
+        InputFile::Old => add_word(text, "old tree"),
+        InputFile::Scenario(at) => add_scenario(alloc, text, "terms", at),
     }
 }
 
@@ -34,6 +44,7 @@ fn size_cause(file: InputFile) -> &'static str
 {
     match file {
         InputFile::Tree => "more than 4611686018427387904 bytes",
+        InputFile::Old => "more than 268435456 bytes",
         _ => "more than 16777216 bytes",
     }
 }
@@ -189,17 +200,19 @@ fn add_job_cause(
     }
 }
 
-fn fault_file(fault: &FileFault) -> &'static str
-    ensures { result.now ≡ fault_file fault.now }
+// What a fault is of.
+fn add_fault_file(alloc: Global, text: &mut Vec<u8>, fault: &FileFault) -> Result<(), Memory>
+    ensures { OnOk result (text.new.items ≡ text.old.items ++ fault_file fault.now) }
 {
     match fault {
-        FileFault::Size(file) => file_name(*file),
-        FileFault::Orders(_) => "orders",
-        FileFault::Bill(_) => "bill",
-        FileFault::Explode(_) => "bill",
-        FileFault::Offers(_) => "offers",
-        FileFault::Terms(_) => "terms",
-        FileFault::Job(_) => "job",
+        FileFault::Size(file) => add_file(alloc, text, *file),
+        FileFault::Orders(_) => add_word(text, "orders"),
+        FileFault::Bill(_) | FileFault::Explode(_) => add_word(text, "bill"),
+        FileFault::Offers(_) | FileFault::NoSupplier => add_word(text, "offers"),
+        FileFault::Terms(_) => add_word(text, "terms"),
+        FileFault::Job(_) => add_word(text, "job"),
+        FileFault::ScenarioTerms { at, .. } => add_scenario(alloc, text, "terms", *at),
+        FileFault::ScenarioJob { at, .. } => add_scenario(alloc, text, "job", *at),
     }
 }
 
@@ -220,6 +233,9 @@ fn add_cause(
         FileFault::Offers(fault) => add_offer_cause(alloc, text, *fault),
         FileFault::Terms(fault) => add_term_cause(alloc, text, *fault),
         FileFault::Job(fault) => add_job_cause(alloc, text, *fault, names),
+        FileFault::ScenarioTerms { fault, .. } => add_term_cause(alloc, text, *fault),
+        FileFault::ScenarioJob { fault, .. } => add_job_cause(alloc, text, *fault, names),
+        FileFault::NoSupplier => add_word(text, "no such supplier"),
     }
 }
 
@@ -245,7 +261,7 @@ pub fn fault_text(
     };
     let mut text = Vec::new(alloc);
     add_word(&mut text, "bad input: ")?;
-    add_word(&mut text, fault_file(fault))?;
+    add_fault_file(alloc, &mut text, fault)?;
     add_word(&mut text, ": ")?;
     add_cause(alloc, &mut text, fault, &named)?;
     add_word(&mut text, "\n")?;
@@ -259,7 +275,7 @@ pub fn unread_text(alloc: Global, file: InputFile) -> Result<Vec<u8>, Memory>
 {
     let mut text = Vec::new(alloc);
     add_word(&mut text, "cannot read ")?;
-    add_word(&mut text, file_name(file))?;
+    add_file(alloc, &mut text, file)?;
     add_word(&mut text, "\n")?;
     Ok(text)
 }

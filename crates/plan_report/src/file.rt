@@ -6,4 +6,8 @@ pub enum InputFile {
     Offers,
     Terms,
     Tree,
+    /// The tree of an earlier answer, from which a job is solved anew.
+    Old,
+    /// The terms of a scenario, of which there are 1 to 16; they are numbered from 1.
+    Scenario(u32),
 }

@@ -40,6 +40,21 @@ fn files_that_are_not_read(rt: HostRuntime) {
             "cannot read tree\n",
             "bad input: tree: more than 4611686018427387904 bytes\n",
         ),
+        (
+            InputFile::Old,
+            "cannot read old tree\n",
+            "bad input: old tree: more than 268435456 bytes\n",
+        ),
+        (
+            InputFile::Scenario(1),
+            "cannot read terms 1\n",
+            "bad input: terms 1: more than 16777216 bytes\n",
+        ),
+        (
+            InputFile::Scenario(16),
+            "cannot read terms 16\n",
+            "bad input: terms 16: more than 16777216 bytes\n",
+        ),
     ] {
         assert!(rt; is_text(unread_text(alloc, file), unread), "{unread}");
         let none = NameList::empty(alloc);
@@ -215,6 +230,56 @@ fn faults_of_jobs(rt: HostRuntime) -> Result<(), Fail> {
         ),
     ] {
         let printed = fault_text(alloc, &FileFault::Job(fault), &names, &[1, 2], &suppliers);
+        assert!(rt; is_text(printed, text), "{text}");
+    }
+    Ok(())
+}
+
+#[test]
+fn faults_of_scenarios_and_of_a_supplier(rt: HostRuntime) -> Result<(), Fail> {
+    let alloc = rt.alloc();
+    let names = list_of(alloc, &["x", "y"])?;
+    let suppliers = list_of(alloc, &["A", "B"])?;
+    assert!(rt; names.len() == 2);
+    assert!(rt; suppliers.len() == 2);
+    let unknown_kind = TermFault::UnknownKind { at: 2 };
+    let wrong_header = TermFault::Rows(RowFault::Header);
+    let share_order = JobFault::ShareOrder { supplier: 1 };
+    for (fault, text) in [
+        (
+            FileFault::ScenarioTerms {
+                at: 1,
+                fault: unknown_kind,
+            },
+            "bad input: terms 1: row 2: unknown kind\n",
+        ),
+        (
+            FileFault::ScenarioTerms {
+                at: 16,
+                fault: wrong_header,
+            },
+            "bad input: terms 16: wrong header\n",
+        ),
+        (
+            FileFault::ScenarioJob {
+                at: 2,
+                fault: JobFault::WinnerOrder,
+            },
+            "bad input: job 2: winners: low above high\n",
+        ),
+        (
+            FileFault::ScenarioJob {
+                at: 10,
+                fault: share_order,
+            },
+            "bad input: job 10: share of B: low above high\n",
+        ),
+        (
+            FileFault::NoSupplier,
+            "bad input: offers: no such supplier\n",
+        ),
+    ] {
+        let printed = fault_text(alloc, &fault, &names, &[0, 1], &suppliers);
         assert!(rt; is_text(printed, text), "{text}");
     }
     Ok(())
