@@ -1,1 +1,1 @@
-pub mod DryCount
+pub mod Counted

@@ -1,16 +1,22 @@
-//! Steps on a first-in first-out deque that count how often they found it empty.
+//! A first-in first-out deque whose handles count the steps that found it empty.
 //!
-//! A step that finds a deque of `crossbeam_deque` empty tells its caller so, and leaves what the caller knows as it was, so no
-//! rule over the deque can count such steps. A `Dry` counts them: a number that contracts alone see, with the deque that it is of.
-//! A new one is 0, `add` adds two of one deque, and nothing else changes it but `pop_counted` and `steal_counted`. Each of them
-//! makes one step, and raises it by one exactly where that step found the deque empty. Both are generic in the rule of the deque
-//! and in what its steps tell, so neither can answer that the deque was empty without such a step.
-//! That a `Dry` counts nothing else rests on its field, which is private to this crate, and on the three small types in dry.rt,
-//! which say how a number is made of another.
+//! A step that finds a deque of `crossbeam_deque` empty tells its caller so, and leaves what the caller knows as it is.
+//! So no rule over the deque can count such steps. Here each handle carries a count, which contracts alone see.
+//!
+//! A `CountedWorker` is made with its deque. The count of its pops rises in `pop` alone, exactly where the one step of
+//! that call found the deque empty. A `CountedPass` is cut off by the worker with the count 0, which rises in `steal`
+//! alone, in the same way. Where the worker takes passes in (`absorb`), their counts are added to one another, beside
+//! the count of its pops, and the next pass that it cuts off by `release` gets the sum.
+//!
+//! Nothing else makes a count or adds two, so none can be kept apart from its handle and joined in later. `pop` and
+//! `steal` are generic in the rule of the deque and in what a step tells, so neither can answer that it was empty
+//! without such a step. That the counts count those steps and nothing else rests on what is private to this crate: the
+//! fields of the handles, and `Dry` of dry.rt, with the three small types that say how a number is made of others.
 #![tactic(auto)]
 
 mod dry;
-mod steps;
+mod handles;
+mod pass;
+mod worker;
 
-pub use dry::Dry;
-pub use steps::{pop_counted, steal_counted};
+pub use handles::{CountedPass, CountedWorker};

@@ -1,30 +1,47 @@
-//! Steps on a deque, and how often they found it empty.
+//! Steps on a deque whose empty steps are counted.
 
-use counted_deque::{Dry, pop_counted, steal_counted};
-use crossbeam_deque::protocol::Free;
-use crossbeam_deque::{Steal, Worker};
+use counted_deque::{CountedPass, CountedWorker};
+use crossbeam_deque::Steal;
+use crossbeam_deque::protocol::{Free, Join, Split};
+use std::alloc::Global;
 use std::test::Fail;
 
 fn crosses_threads<T: Send>() {}
 
 #[test]
-fn a_count_crosses_threads() {
-    crosses_threads::<Dry>();
+fn counted_handles_cross_threads() {
+    crosses_threads::<CountedWorker<u64, Global, (), Free>>();
+    crosses_threads::<CountedPass<u64, (), Global>>();
+}
+
+// Cuts off and takes in a pass of which nothing is known.
+struct Plain;
+
+impl Split<()> for Plain {
+    ghost left = { λ _. tt };
+
+    ghost right = { λ _. tt };
+}
+
+impl Join<()> for Plain {
+    ghost both = { λ _ _. tt };
+
+    ghost spent = { tt };
 }
 
 #[test]
 fn counted_steps_answer_as_the_deque_does(rt: HostRuntime) -> Result<(), Fail> {
-    let mut worker: Worker<u64> = Worker::new_fifo(rt.alloc(), 2)?;
+    let mut worker: CountedWorker<u64, Global, (), Free> = CountedWorker::fifo_as(rt.alloc(), 2)?;
     let thief = worker.stealer()?;
-    let mut pass = thief.pass();
-    let mut own = Dry::of(&worker);
-    let mut other = Dry::of(&worker);
-    let pushed = worker.push_as::<Free>(5);
-    let stolen = steal_counted::<Free, _, _, _, _>(&thief, &mut pass, &mut other);
-    let none_to_steal = steal_counted::<Free, _, _, _, _>(&thief, &mut pass, &mut other);
-    let none_to_pop = pop_counted::<Free, _, _, _, _>(&mut worker, &mut own);
-    drop(own.and(other));
+    let mut pass = worker.another::<Plain>();
+    let pushed = worker.push::<Free>(5);
+    let stolen = pass.steal::<Free, _>(&thief);
+    let none_to_steal = pass.steal::<Free, _>(&thief);
+    let none_to_pop = worker.pop::<Free>();
+    worker.absorb::<Plain>(pass);
+    let none_to_steal_again = worker.release::<Plain>().steal::<Free, _>(&thief);
     assert!(rt; pushed.is_ok() && stolen == Steal::Success(5));
     assert!(rt; none_to_steal == Steal::Empty && none_to_pop.is_none());
+    assert!(rt; none_to_steal_again == Steal::Empty);
     Ok(())
 }

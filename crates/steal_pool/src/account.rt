@@ -1,14 +1,16 @@
-// What proofs know of an owner and of a pass, the rule that each step keeps, and what each step does. No value of the structs is made.
+// What proofs know of an owner and of a pass, the rule that each step keeps, and what each step does. No value of the
+// structs is made.
 ghost use Rattle.std.specs.Prelude.{◌≡◌, ℕ};
 
+use counted_deque::{CountedPass, CountedWorker};
+use crossbeam_deque::Stealer;
 use crossbeam_deque::protocol::{Join, Outcome, Protocol, Split};
-use crossbeam_deque::{Stealer, Worker};
 use std::alloc::Global;
 use std::collections::LinkedList;
 use std::marker::{Brand, PhantomData};
 
-/// What an owner or a pass stands for: whether it is the owner, what it put and got, what it holds of other passes and the parts,
-/// and of the owner the parts of the lane. It exists in proofs alone.
+/// What an owner or a pass stands for: whether it is the owner, what it put and got, what it holds of other passes and
+/// the parts, and of the owner the parts of the lane. It exists in proofs alone.
 pub struct Account {
     pub owns: bool,
     pub put: LinkedList<u64>,
@@ -18,11 +20,11 @@ pub struct Account {
     pub whole: u64,
 }
 
-pub type LaneWorker = Worker<u64, Global, Account, Law>;
+pub type LaneWorker = CountedWorker<u64, Global, Account, Law>;
 
 pub type LaneStealer = Stealer<u64, Global, Account, Law>;
 
-pub type Token = crossbeam_deque::Pass<u64, Account>;
+pub type Token = CountedPass<u64, Account, Global>;
 
 /// The rule of the deque.
 pub struct Law;
@@ -55,8 +57,8 @@ impl Outcome<u64, Account> for Take {
     ghost then = { λ before tickets after. after ≡ took before tickets };
 }
 
-/// A pop of an owner with all parts: it takes the ticket that was put after those that are gone, and finds the lane empty only
-/// where all that was put is gone.
+/// A pop of an owner with all parts: it takes the ticket that was put after those that are gone, and finds the lane
+/// empty only where all that was put is gone.
 pub struct Drain;
 
 impl Outcome<u64, Account> for Drain {
@@ -64,9 +66,11 @@ impl Outcome<u64, Account> for Drain {
     ghost use Rattle.std.specs.List.{sum_by};
     ghost use Rattle.steal_pool.specs.LaneAccount.{took, gone, weight_of};
 
-    ghost then = { λ before tickets after. (after ≡ took before tickets) × (drop (gone before) before.put ≡ tickets ++ drop (gone before + length tickets) before.put) };
+    ghost then = { λ before tickets after. (after ≡ took before tickets)
+        × (drop (gone before) before.put ≡ tickets ++ drop (gone before + length tickets) before.put) };
 
-    ghost empty = { λ account. (length account.put ≡ gone account) × ((h : ℕ → ℕ) → sum_by h account.put ≡ weight_of h account) };
+    ghost empty = { λ account. (length account.put ≡ gone account)
+        × ((h : ℕ → ℕ) → sum_by h account.put ≡ weight_of h account) };
 }
 
 /// How many parts a new pass gets. The call that cuts it off picks the number.

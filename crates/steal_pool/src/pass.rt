@@ -3,7 +3,6 @@ ghost use Rattle.std.specs.Prelude.{◌≡◌, ◌+◌, ◌-◌, ◌<◌, ◌≤
 use crate::account::Token;
 use crate::cuts::{blank, cut, hold, release};
 use crate::lane::Lane;
-use counted_deque::Dry;
 use std::marker::{Brand, Model};
 use std::mem;
 
@@ -11,19 +10,19 @@ use std::mem;
 #[derive(Drop)]
 pub struct Pass {
     pub(crate) token: Token,
-    pub(crate) dry: Dry,
 }
 
 impl Model for Pass {
-    ghost use Rattle.std.specs.Prelude.{◌≡◌, None};
-    ghost use Rattle.crossbeam_deque.specs.Handles.{view as known};
+    ghost use Rattle.counted_deque.specs.Counted.{pass_deque, pass_view, dry_steals, IsCountedPassOf};
     ghost use Rattle.steal_pool.specs.Seen.{PassSeen, IsPass};
 
     ghost Value = { PassSeen };
 
-    ghost view = { λ p. record { lane = p.dry.deque; parts = (known p.token).parts; got = (known p.token).got; dry = p.dry.count } };
+    ghost view = { λ p.
+        let known = pass_view p.token in
+        record { lane = (pass_deque p.token).0; parts = known.parts; got = known.got; dry = dry_steals p.token } };
 
-    ghost invariant = { λ p. (p.token.rows ≡ p.dry.deque) × (p.token.me.hand ≡ None) × (p.token.me.spare ≡ None) × IsPass (known p.token) };
+    ghost invariant = { λ p. IsCountedPassOf (pass_deque p.token) p.token × IsPass (pass_view p.token) };
 }
 
 impl Pass {
@@ -40,25 +39,25 @@ impl Pass {
         hold(worker, held);
         let token = cut::<Brand>(worker, parts);
         self.token = release(worker);
-        Pass {
-            token,
-            dry: Dry::of(worker),
-        }
+        Pass { token }
     }
 
     /// Takes the other pass into the pass.
     pub fn join(&mut self, lane: &mut Lane, other: Pass)
         requires { (self.old.lane ≡ lane.old.lane) × (other.lane ≡ lane.old.lane) }
         ensures lane { lane.new ≡ lane.old }
-        ensures joined { self.new ≡ record { lane = self.old.lane; parts = self.old.parts + other.parts; got = self.old.got ++ other.got; dry = self.old.dry + other.dry } }
+        ensures joined { self.new ≡ record {
+          lane = self.old.lane;
+          parts = self.old.parts + other.parts;
+          got = self.old.got ++ other.got;
+          dry = self.old.dry + other.dry;
+        } }
     {
-        let Pass { token, dry } = other;
+        let Pass { token } = other;
         let worker = &mut lane.worker;
         let held = mem::replace(&mut self.token, blank(worker));
         hold(worker, held);
         hold(worker, token);
         self.token = release(worker);
-        let counted = mem::replace(&mut self.dry, Dry::of(worker));
-        self.dry = counted.and(dry);
     }
 }

@@ -3,9 +3,9 @@ ghost use Rattle.steal_pool.specs.Seen.{IsSamePass};
 
 use crate::account::{LaneStealer, Take};
 use crate::pass::Pass;
-use counted_deque::steal_counted;
 use crossbeam_deque::Steal;
 use std::alloc::Global;
+use std::hint::spin_loop;
 use std::marker::Model;
 use std::sync::Wait;
 use tqd_base::Memory;
@@ -29,18 +29,20 @@ impl Model for Thief {
 }
 
 impl Thief {
-    /// Takes the ticket at the front. Where another thread was faster nothing has changed, and it tries again: so it may wait.
-    /// None comes only where the step of this call by which the pass's `dry` rose found the lane empty.
+    /// Takes the ticket at the front. Where another thread was faster nothing has changed, and it tries again after a
+    /// pause: so it may wait. None comes only where the step of this call by which the pass's `dry` rose found the lane
+    /// empty.
     pub fn steal<R: Wait>(&self, rt: &R, pass: &mut Pass) -> Option<u64>
         requires { pass.old.lane ≡ self.now.lane }
         ensures same { IsSamePass pass.old pass.new }
-        ensures taken { MatchOption result (pass.new ≡ record pass.old { dry = pass.old.dry + 1 }) (λ ticket. pass.new ≡ record pass.old { got = pass.old.got ++ ticket ∷ [] }) }
+        ensures taken { MatchOption result (pass.new ≡ record pass.old { dry = pass.old.dry + 1 })
+            (λ ticket. pass.new ≡ record pass.old { got = pass.old.got ++ ticket ∷ [] }) }
     {
         for _ in rt.forever() {
-            match steal_counted::<Take, _, _, _, _>(&self.stealer, &mut pass.token, &mut pass.dry) {
+            match pass.token.steal::<Take, _>(&self.stealer) {
                 Steal::Success(ticket) => return Some(ticket),
                 Steal::Empty => return None,
-                Steal::Retry => {}
+                Steal::Retry => spin_loop(),
             }
         }
         unreachable!()

@@ -1,6 +1,9 @@
-use Rattle.crossbeam_deque.specs.Handles.{view, worker_port, worker_view}
+use Rattle.counted_deque.specs.Counted.{owner_port, owner_view, pass_number, pass_view}
 use Rattle.steal_pool.proofs.Moves.{holds}
 use Rattle.steal_pool.proofs.cuts.hold.Goals as goal
 
 pub absorb-requires-clause-rule : goal.absorb-requires-clause-rule
-absorb-requires-clause-rule c = holds (worker_port c.args.worker.now) (worker_view c.args.worker.now) c.args.token.id (view c.args.token) c.requires.owns c.requires.pass.1 c.requires.pass.2
+absorb-requires-clause-rule c =
+    let worker = c.args.worker.now in
+    let token = c.args.token in
+    holds (owner_port worker) (owner_view worker) (pass_number token) (pass_view token) c.requires.owns c.requires.pass.0 c.requires.pass.1

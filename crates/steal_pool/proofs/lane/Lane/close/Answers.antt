@@ -1,9 +1,13 @@
-use Rattle.crossbeam_deque.specs.Handles.{worker_port, worker_view}
+use Rattle.counted_deque.specs.Counted.{owner_port, owner_view}
 use Rattle.steal_pool.proofs.Moves.{drains, drained}
 use Rattle.steal_pool.proofs.lane.Lane.close.Goals as goal
 
-pub pop_as-requires-clause-fifo : goal.pop_as-requires-clause-fifo
-pop_as-requires-clause-fifo c = λ _. drains (worker_port c.loop-ticket.worker) (worker_view c.loop-ticket.worker) c.loop-ticket.invariant.owns c.loop-ticket.invariant.all
+pub pop-requires-clause-takes : goal.pop-requires-clause-takes
+pop-requires-clause-takes c =
+    let l = c.loop-ticket in
+    drains (owner_port l.worker) (owner_view l.worker) l.invariant.owns l.invariant.all
 
-pub pop_as-requires-clause-empty : goal.pop_as-requires-clause-empty
-pop_as-requires-clause-empty c = drained (worker_port c.loop-ticket.worker) (worker_view c.loop-ticket.worker) c.loop-ticket.invariant.owns c.loop-ticket.invariant.all
+pub pop-requires-clause-empty : goal.pop-requires-clause-empty
+pop-requires-clause-empty c =
+    let l = c.loop-ticket in
+    drained (owner_port l.worker) (owner_view l.worker) l.invariant.owns l.invariant.all

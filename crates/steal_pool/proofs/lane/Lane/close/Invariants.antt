@@ -1,18 +1,17 @@
 use Rattle.std.proofs.Common.{◌≡◌, ◌-◌, ◌++◌, true, length, drop}
-use Rattle.crossbeam_deque.specs.Handles.{worker_flavor, worker_view}
+use Rattle.counted_deque.specs.Counted.{owner_view}
 use Rattle.steal_pool.specs.LaneAccount.{gone}
 use Rattle.steal_pool.proofs.lane.Lane.close.Given as goal
 
 abbrev pub decreases-loop-ticket : goal.decreases-loop-ticket
-decreases-loop-ticket l = length (worker_view l.worker).put - gone (worker_view l.worker)
+decreases-loop-ticket l = length (owner_view l.worker).put - gone (owner_view l.worker)
 
 -- what was left is what was taken out so far and then what is left now
 abbrev pub invariant-loop-ticket : goal.invariant-loop-ticket
 invariant-loop-ticket l =
-    let first = worker_view l.initial.worker in
-    let now = worker_view l.worker in
+    let first = owner_view l.initial.worker in
+    let now = owner_view l.worker in
     record {
-      fifo : worker_flavor l.worker ≡ 0;
       owns : now.owns ≡ true;
       all : now.parts ≡ now.whole;
       put : now.put ≡ first.put;

@@ -1,9 +1,9 @@
 use Rattle.std.proofs.Common.{[], ◌∷◌}
-use Rattle.crossbeam_deque.specs.Handles.{worker_port, worker_view}
+use Rattle.counted_deque.specs.Counted.{owner_port, owner_view}
 use Rattle.steal_pool.proofs.Moves.{pushes}
 use Rattle.steal_pool.proofs.lane.Lane.push.Goals as goal
 
-pub push_as-requires-clause-pushes : goal.push_as-requires-clause-pushes
-push_as-requires-clause-pushes c =
+pub push-requires-clause-pushes : goal.push-requires-clause-pushes
+push-requires-clause-pushes c =
     let worker = c.self.inside.worker in
-    pushes (worker_port worker) (worker_view worker) (_ ∷ []) c.self.invariant.2.owns
+    pushes (owner_port worker) (owner_view worker) (_ ∷ []) c.self.invariant.1.owns
