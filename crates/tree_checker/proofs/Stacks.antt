@@ -8,6 +8,7 @@ use Rattle.tqd_base.specs.Sum.{sum_to}
 use Rattle.tqd_instance.specs.declared.job.Job.{Job}
 use Rattle.tqd_instance.proofs.SumLemmas.{sum_to-suc, sum_to-le, sum_to-bound}
 use Rattle.interval_box.specs.declared.boxes.IntervalBox.{IntervalBox}
+use Rattle.tree_checker.specs.declared.stack.TheConstants.{BOXES_MAX}
 use Rattle.interval_box.specs.Ranges.{low_of, high_of}
 use Rattle.interval_box.specs.Halves.{IsProper, low_half, high_half}
 use Rattle.interval_box.proofs.Places.{low_half-low, low_half-high, low_half-high_other, high_half-high, high_half-low, high_half-low_other}
@@ -63,7 +64,7 @@ unfolding high_half
 high_places area i s p = record { lows = length-set area.lows i (s + 1) ∙ p.lows; highs = p.highs }
 
 -- what is known of the box on top
-pub first_room : (area : IntervalBox) (due : List IntervalBox) → IsRoomy (area ∷ due) → HasPlaces area × (length due + 1 + splits_left area ≤ 1025) × IsRoomy due
+pub first_room : (area : IntervalBox) (due : List IntervalBox) → IsRoomy (area ∷ due) → HasPlaces area × (length due + 1 + splits_left area ≤ BOXES_MAX) × IsRoomy due
 unfolding IsRoomy
 first_room area due r = r
 
@@ -104,7 +105,7 @@ pub record IsTakenOff (olds xs : List IntervalBox) (area : IntervalBox) (i s : �
   pub below : i < 64
   pub proper : IsProper area i s
   pub roomy : IsRoomy (low_half area i s ∷ high_half area i s ∷ reverse xs)
-  pub room : length xs + 2 ≤ 1025
+  pub room : length xs + 2 ≤ BOXES_MAX
 
 pub taken_off : (olds xs : List IntervalBox) (area : IntervalBox) (i s : ℕ) → olds ≡ xs ++ area ∷ [] → IsRoomy (reverse olds) → IsSplitFirst (reverse olds) i s
     → IsTakenOff olds xs area i s

@@ -4,6 +4,7 @@ use Rattle.std.specs.Global.{Global}
 use Rattle.tqd_base.specs.declared.limits.TheConstants.{SUPPLIERS_MAX}
 use Rattle.tqd_base.specs.Sum.{sum_to}
 use Rattle.interval_box.specs.declared.boxes.IntervalBox.{IntervalBox}
+use Rattle.tree_checker.specs.declared.stack.TheConstants.{BOXES_MAX}
 use Rattle.interval_box.specs.Ranges.{low_of, high_of}
 use Rattle.interval_box.specs.Halves.{IsProper}
 
@@ -19,10 +20,10 @@ pub record HasPlaces (area : IntervalBox) : Type 0 where
 -- each box can be split as often as there is room for
 unfoldable pub IsRoomy : List IntervalBox → Type 0
 IsRoomy [] = Unit {0}
-IsRoomy (area ∷ below) = HasPlaces area × (length below + 1 + splits_left area ≤ 1025) × IsRoomy below
+IsRoomy (area ∷ below) = HasPlaces area × (length below + 1 + splits_left area ≤ BOXES_MAX) × IsRoomy below
 
 pub record IsStack (boxes : Vec IntervalBox Global) : Type 0 where
-  pub reserved : 1025 ≤ vec_capacity boxes
+  pub reserved : BOXES_MAX ≤ vec_capacity boxes
   pub roomy : IsRoomy (reverse boxes.items)
 
 -- the box on top, where there is one

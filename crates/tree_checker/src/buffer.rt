@@ -15,8 +15,8 @@ pub(crate) struct LineBuffer {
     pub ghost room: { HasLineRoom bytes },
 }
 
-/// Where the first line of a text ends, if it does.
-pub(crate) fn line_end(text: &[u8]) -> Option<usize>
+/// Where the first line of a text ends, if it does: the place of its line feed.
+pub fn line_end(text: &[u8]) -> Option<usize>
     ensures value { result ≡ position ends_line text.now }
     ensures within { IfSome result (λ at. at < length text.now) }
 {

@@ -27,14 +27,8 @@ pub(crate) fn rejected(line: u64, why: Why) -> Result<Due, Rejection>
 }
 
 /// The place of a `buy` line in the order of suppliers and goods, where its numbers are in range and it is not before
-/// the next place.
-pub(crate) fn next_place(
-    job: &Job,
-    next: u64,
-    supplier: u128,
-    good: u128,
-    units: u128,
-) -> Option<u64>
+/// the next place. The place of a supplier and a good is the supplier times the number of goods, plus the good.
+pub fn next_place(job: &Job, next: u64, supplier: u128, good: u128, units: u128) -> Option<u64>
     ensures place { IsNextPlace job.now next supplier good units result }
     ensures few { IfSome result (λ at. at < 2 ^ 32) }
 {
@@ -51,12 +45,7 @@ pub(crate) fn next_place(
 }
 
 /// The supplier and the segment of a split, where it is proper for the box.
-pub(crate) fn split_place(
-    job: &Job,
-    area: &IntervalBox,
-    supplier: u128,
-    at: u128,
-) -> Option<(usize, u8)>
+pub fn split_place(job: &Job, area: &IntervalBox, supplier: u128, at: u128) -> Option<(usize, u8)>
     ensures { IsSplitPlace job.now area.now supplier at result }
 {
     if job.suppliers() as u128 <= supplier {

@@ -2,13 +2,14 @@ ghost use Rattle.std.specs.Prelude.{◌≤◌, vec_len};
 ghost use Rattle.std.specs.List.{All};
 ghost use Rattle.tqd_instance.specs.Plan.{IsSizedFor};
 ghost use Rattle.interval_box.specs.Ranges.{IsBoxOf};
+ghost use Rattle.tree_checker.specs.declared.leaf.TheConstants.{PRICES_MAX};
 ghost use Rattle.tree_checker.specs.SlotRows.{AreSlotRows};
 
 use crate::buffer::LineBuffer;
 use crate::due::{Due, next_place, rejected, split_place};
-use crate::leaf::{PRICES_MAX, leaf_fault, prices_wanted};
+use crate::leaf::{PRICES_MAX, leaf_fault};
 use crate::rejection::{Rejection, Why};
-use crate::slot_leaf::{row_fault, slot_leaf_fault};
+use crate::slot_leaf::{slot_leaf_fault, slot_row_fault};
 use crate::slots::RowSlots;
 use crate::stack::BoxStack;
 use bound_tree::LineHead;
@@ -27,7 +28,7 @@ pub(crate) struct Judge<'j> {
     boxes: BoxStack,
     slots: RowSlots,
     pub ghost sized: { IsSizedFor job.now plan },
-    pub ghost room: { 2024 ≤ vec_len prices },
+    pub ghost room: { PRICES_MAX ≤ vec_len prices },
     pub ghost of_job: { All (IsBoxOf job.now) boxes },
     pub ghost rows: { AreSlotRows job.now slots },
 }
@@ -97,7 +98,7 @@ impl<'j> Judge<'j> {
             plan: Plan::zero(alloc, job.suppliers(), job.goods())?,
             prices: vec![in alloc; 0; PRICES_MAX]?,
             boxes: BoxStack::start(alloc)?,
-            slots: RowSlots::start(alloc, prices_wanted(job, &IntervalBox::root(job)))?,
+            slots: RowSlots::start(alloc, job)?,
         })
     }
 
@@ -373,7 +374,7 @@ impl<'j> Judge<'j> {
             (after_row self.old.job.now line slots best self.old.boxes slot (prices_of text.now)
             (slot_row_fault self.old.job.now slot (prices_of text.now))) }
     {
-        match row_fault(self.job, &mut self.slots, slot, count, text) {
+        match slot_row_fault(self.job, &mut self.slots, slot, count, text) {
             Some(why) => rejected(line, why),
             None => Ok(Due::Node(best)),
         }

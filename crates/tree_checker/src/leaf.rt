@@ -2,6 +2,7 @@ ghost use Rattle.std.specs.Prelude.{◌≡◌, ◌≤◌, ◌≤ℤ◌, ◌<ℤ�
 ghost use Rattle.interval_box.specs.Ranges.{IsBoxOf};
 ghost use Rattle.bound_tree.specs.LineHead.{head_of, prices_of, IsRowOf};
 ghost use Rattle.bound_tree.specs.Prices.{AreFitting};
+ghost use Rattle.tree_checker.specs.declared.leaf.TheConstants.{PRICES_MAX};
 ghost use Rattle.tree_checker.specs.Verdict.{prices_wanted, row_fault, bound_fault, empty_fault, winners_fault, short_fault, free_fault};
 ghost use Rattle.tree_checker.specs.ByHead.{leaf_by_head};
 ghost use Rattle.tree_checker.specs.Judged.{ReadsRow};
@@ -12,19 +13,20 @@ use interval_box::IntervalBox;
 use tqd_instance::Job;
 
 /// How many prices a row of any box has at most: one for each of 1,000 goods and of 1,024 places.
-pub(crate) const PRICES_MAX: usize = 2_024;
+pub const PRICES_MAX: usize = 2_024;
 
 /// How many prices a row of the box has.
-pub(crate) fn prices_wanted(job: &Job, area: &IntervalBox) -> usize
+pub fn prices_wanted(job: &Job, area: &IntervalBox) -> usize
     requires { IsBoxOf job.now area.now }
     ensures value { result ≡ prices_wanted job.now area.now }
-    ensures few { result ≤ 2024 }
+    ensures few { result ≤ PRICES_MAX }
 {
     job.goods() + place_count(job, area)
 }
 
-/// Reads the prices of a row to the front of the places, and says what is wrong with them.
-fn read_row(
+/// Reads the prices of a row of the box, of which the line has so many, to the front of the places, and says what is wrong
+/// with them: their number, or the first that is out of range. Prices are in millionths of the currency.
+pub fn read_row(
     job: &Job,
     area: &IntervalBox,
     line: &[u8],
@@ -33,7 +35,7 @@ fn read_row(
 ) -> Option<Why>
     requires of_job { IsBoxOf job.now area.now }
     requires row { IsRowOf found (head_of line.now) }
-    requires room { 2024 ≤ length places.old }
+    requires room { PRICES_MAX ≤ length places.old }
     ensures { ReadsRow job.now area.now (prices_of line.now) places.new result }
 {
     let wanted = prices_wanted(job, area);
@@ -60,7 +62,7 @@ pub(crate) fn leaf_fault(
 ) -> Option<Why>
     requires of_job { IsBoxOf job.now area.now }
     requires head { IfSome head (λ h. head_of line.now ≡ Some h) }
-    requires room { 2024 ≤ length places.old }
+    requires room { PRICES_MAX ≤ length places.old }
     ensures { result ≡ leaf_by_head job.now best area.now head (prices_of line.now) }
 {
     match head {
@@ -82,7 +84,7 @@ fn bound_fault(
 ) -> Option<Why>
     requires of_job { IsBoxOf job.now area.now }
     requires row { IsRowOf found (head_of line.now) }
-    requires room { 2024 ≤ length places.old }
+    requires room { PRICES_MAX ≤ length places.old }
     ensures { result ≡ bound_fault job.now best area.now (prices_of line.now) }
 {
     if let Some(why) = read_row(job, area, line, found, places) {
@@ -118,7 +120,7 @@ fn empty_fault(
 ) -> Option<Why>
     requires of_job { IsBoxOf job.now area.now }
     requires row { IsRowOf found (head_of line.now) }
-    requires room { 2024 ≤ length places.old }
+    requires room { PRICES_MAX ≤ length places.old }
     ensures { result ≡ empty_fault job.now area.now (prices_of line.now) }
 {
     if let Some(why) = read_row(job, area, line, found, places) {

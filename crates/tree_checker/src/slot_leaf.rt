@@ -3,6 +3,7 @@ ghost use Rattle.tqd_instance.specs.declared.job.Job.{Job};
 ghost use Rattle.interval_box.specs.Ranges.{IsBoxOf};
 ghost use Rattle.bound_tree.specs.LineHead.{head_of, prices_of, IsRowOf};
 ghost use Rattle.bound_tree.specs.SlotTree.{Slots};
+ghost use Rattle.tree_checker.specs.declared.leaf.TheConstants.{PRICES_MAX};
 ghost use Rattle.tree_checker.specs.Verdict.{bound_row_fault, empty_row_fault, named_fault, named_slot};
 ghost use Rattle.tree_checker.specs.ByHead.{slot_leaf_by_head};
 ghost use Rattle.tree_checker.specs.SlotRows.{Holds, AreSlotRows};
@@ -15,8 +16,9 @@ use bound_tree::{LineHead, SLOTS_MAX, prices_into, root_value_free_in, root_valu
 use interval_box::IntervalBox;
 use tqd_instance::Job;
 
-/// Reads a `row` line of so many prices into its slot, and says what is wrong with it.
-pub(crate) fn row_fault(
+/// Reads a `row` line of so many prices into its slot, and says what is wrong with it: its slot, the number of its prices,
+/// or the first that is out of range. A wrong line may leave its slot without a row.
+pub fn slot_row_fault(
     job: &Job,
     slots: &mut RowSlots,
     slot: u128,
@@ -41,8 +43,8 @@ pub(crate) fn row_fault(
     }
 }
 
-/// The number that stands alone after the word of a leaf, where it is at least 0.
-fn named_slot(line: &[u8], count: u64, places: &mut [i64]) -> Option<u128>
+/// The number that stands alone after the word of a leaf of so many numbers, where it is at least 0.
+pub fn named_slot(line: &[u8], count: u64, places: &mut [i64]) -> Option<u128>
     requires row { IsRowOf count (head_of line.now) }
     requires room { 1 ≤ length places.old }
     ensures { result ≡ named_slot (prices_of line.now) }
@@ -73,7 +75,7 @@ pub(crate) fn slot_leaf_fault(
 ) -> Option<Why>
     requires of_job { IsBoxOf job.now area.now }
     requires head { IfSome head (λ h. head_of line.now ≡ Some h) }
-    requires room { 2024 ≤ length places.old }
+    requires room { PRICES_MAX ≤ length places.old }
     requires rows { AreSlotRows job.now slots.now }
     ensures { (rows : Slots) → Holds job.now slots.now rows → result ≡ slot_leaf_by_head job.now rows best area.now head (prices_of line.now) }
 {

@@ -1,4 +1,6 @@
+use crate::leaf::prices_wanted;
 use bound_tree::{SLOTS_MAX, prices_into};
+use interval_box::IntervalBox;
 use std::alloc::Global;
 use tqd_base::Memory;
 use tqd_instance::Job;
@@ -10,9 +12,10 @@ pub(crate) struct SlotRow {
     prices: Vec<i64>,
 }
 
-/// The rows that a text of format 2 has given so far. In a text of format 1 the slots are not in use.
+/// The rows that a text of format 2 has given so far, in 64 slots: of each the prices of the goods, then those of the
+/// places of the root, in millionths of the currency. In a text of format 1 the slots are not in use.
 #[derive(Debug, Drop)]
-pub(crate) struct RowSlots {
+pub struct RowSlots {
     in_use: bool,
     wanted: usize,
     rows: Vec<SlotRow>,
@@ -46,13 +49,23 @@ impl RowSlots {
     ghost use Rattle.bound_tree.specs.LineHead.{head_of, prices_of, is_beyond, IsRowOf};
     ghost use Rattle.bound_tree.specs.SlotTree.{Slots, no_rows, row_in, with_row};
     ghost use Rattle.tree_checker.specs.Verdict.{prices_wanted};
-    ghost use Rattle.tree_checker.specs.SlotRows.{Holds, AreSlotRows, LendsRow};
+    ghost use Rattle.tree_checker.specs.SlotRows.{are_used, Holds, AreSlotRows, SameRows, LendsRow};
 
-    /// No slot has a row, and in each there is room for so many prices; nothing else here takes memory.
-    pub fn start(alloc: Global, wanted: usize) -> Result<RowSlots, Memory>
-        ensures unused { IfOk result (λ kept. kept.in_use ≡ false) }
-        ensures rows { IfOk result (λ kept. (job : Job) → wanted ≡ prices_wanted job (root_of job) → AreSlotRows job kept) }
-        ensures none { IfOk result (λ kept. (job : Job) → Holds job kept no_rows) }
+    /// Slots that are not in use, none of which has a row, with room for a row of the root in each; nothing else here takes
+    /// memory.
+    pub fn start(alloc: Global, job: &Job) -> Result<RowSlots, Memory>
+        ensures unused { IfOk result (λ kept. are_used kept ≡ false) }
+        ensures rows { IfOk result (AreSlotRows job.now) }
+        ensures none { IfOk result (λ kept. Holds job.now kept no_rows) }
+    {
+        RowSlots::with_room(alloc, prices_wanted(job, &IntervalBox::root(job)))
+    }
+
+    // No slot has a row, and in each there is room for so many prices.
+    fn with_room(alloc: Global, wanted: usize) -> Result<RowSlots, Memory>
+        ensures unused { IfOk result (λ kept. are_used kept ≡ false) }
+        ensures rows { (job : Job) → wanted ≡ prices_wanted job (root_of job) → IfOk result (AreSlotRows job) }
+        ensures none { (job : Job) → IfOk result (λ kept. Holds job kept no_rows) }
     {
         let mut rows = Vec::with_capacity(alloc, SLOTS_MAX)?;
         for _ in 0..SLOTS_MAX {
@@ -70,22 +83,21 @@ impl RowSlots {
 
     /// Whether the text is one of format 2.
     pub fn are_in_use(&self) -> bool
-        ensures { result ≡ self.now.in_use }
+        ensures { result ≡ are_used self.now }
     {
         self.in_use
     }
 
     /// The text is one of format 2.
     pub fn take_into_use(&mut self)
-        ensures used { self.new.in_use ≡ true }
-        ensures wanted { self.new.wanted ≡ self.old.wanted }
-        ensures rows { self.new.rows ≡ self.old.rows }
+        ensures used { are_used self.new ≡ true }
+        ensures rows { SameRows self.old self.new }
     {
         self.in_use = true;
     }
 
     /// How many prices a row has.
-    pub fn wanted(&self) -> usize
+    pub(crate) fn wanted(&self) -> usize
         ensures { result ≡ self.now.wanted }
     {
         self.wanted
@@ -93,7 +105,7 @@ impl RowSlots {
 
     /// Reads the prices of a `row` line into its slot. `Some` with the first price that is out of range, if there is one;
     /// then the slot has no row.
-    pub fn fill(&mut self, _job: &Job, slot: usize, line: &[u8]) -> Option<i128>
+    pub(crate) fn fill(&mut self, _job: &Job, slot: usize, line: &[u8]) -> Option<i128>
         requires slot { slot < SLOTS_MAX }
         requires row { IsRowOf self.old.wanted (head_of line.now) }
         requires rows { AreSlotRows _job.now self.old }
@@ -106,7 +118,7 @@ impl RowSlots {
         self.rows[slot].read(line)
     }
 
-    /// The row of a slot, where the number is one of a slot that was given a row.
+    /// The prices of the row in a slot, where the number is one of a slot that was given a row.
     pub fn row(&self, slot: u128) -> Option<&[i64]>
         ensures { (job : Job) (slots : Slots) → AreSlotRows job self.now → Holds job self.now slots
             → LendsRow job (row_in slots slot) result }

@@ -1,13 +1,9 @@
-use Rattle.std.proofs.Common.{ℕ, ◌≡◌, None, Option, length, replicate, ap, ◌∙◌, arith}
-use Rattle.bound_tree.specs.declared.slots.TheConstants.{SLOTS_MAX}
-use Rattle.bound_tree.specs.Prices.{Prices}
-use Rattle.bound_tree.specs.SlotTree.{no_rows}
-use Rattle.tree_checker.proofs.HeldRows.{bare_none}
+use Rattle.std.proofs.Common.{◌∙◌, ap}
+use Rattle.tree_checker.specs.Verdict.{prices_wanted}
+use Rattle.bound_tree.proofs.Roots.{root_is_value}
 use Rattle.tree_checker.proofs.slots.RowSlots.start.Goals as goal
 
-pub returns-clause-none : goal.returns-clause-none
-unfolding no_rows
-returns-clause-none c = λ job.
-    let held = c.loop.invariant in
-    let count : length c.loop.rows.items ≡ SLOTS_MAX = omega (arith, held.count, c.loop-test.false, c.loop.auto.counter-end) in
-    bare_none job c.args.wanted c.loop.rows.items held.bare ∙ ap (λ (n : ℕ). replicate {A = Option Prices} n None) count
+pub returns-clause-rows : goal.returns-clause-rows
+returns-clause-rows c =
+    let job = c.args.job.now in
+    c.with_room.ensures.rows job (c.prices_wanted.ensures.value ∙ ap (prices_wanted job) (root_is_value job c.root.result c.root.ensures.whole))

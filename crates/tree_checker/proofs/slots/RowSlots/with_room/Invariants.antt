@@ -1,7 +1,7 @@
 use Rattle.std.proofs.Common.{◌≡◌, length}
 use Rattle.std.specs.List.{All}
 use Rattle.tree_checker.proofs.HeldRows.{IsBare}
-use Rattle.tree_checker.proofs.slots.RowSlots.start.Given as goal
+use Rattle.tree_checker.proofs.slots.RowSlots.with_room.Given as goal
 
 abbrev pub invariant-loop : goal.invariant-loop
 invariant-loop l = record {
