@@ -1,0 +1,11 @@
+pub mod LineCuts
+pub mod Leading
+pub mod OpenNodes
+pub mod OneNarrowed
+pub mod BuyLines
+pub mod Offering
+pub mod LineFollows
+pub mod SaidLines
+pub mod ReadLoop
+pub mod Planting
+pub mod HeadLines
