@@ -8,6 +8,8 @@ mod bounds;
 #[cfg(test)]
 mod boxes;
 #[cfg(test)]
+mod formed;
+#[cfg(test)]
 mod jobs;
 #[cfg(test)]
 mod made;

@@ -352,6 +352,36 @@ fn a_plan_stands_by_the_first_test_that_it_fails(rt: HostRuntime) -> Result<(), 
     Ok(())
 }
 
+/// How a plan stands in the job of two suppliers with these limits of its winners.
+fn standing_within(
+    rt: &impl Abort,
+    alloc: Global,
+    (least, most): (u64, u64),
+    cells: &[(usize, usize, u64)],
+) -> Result<Standing, Stop<JobFault>> {
+    let mut parts = two_suppliers(alloc)?;
+    parts.set_winners(least, most);
+    let job = built(rt, alloc, &parts)?;
+    Ok(standing_of(rt, alloc, &job, cells)?)
+}
+
+#[test]
+fn a_plan_stands_where_its_winners_are_within_the_limits(rt: HostRuntime) -> Result<(), Fail> {
+    for (limits, second, want) in [
+        ((1, 1), 0, Standing::Feasible(165_000_000)),
+        ((2, 64), 0, Standing::Winners(1)),
+        ((0, 0), 0, Standing::Winners(1)),
+        ((2, 2), 1, Standing::Feasible(180_000_000)),
+        ((0, 1), 1, Standing::Winners(2)),
+        ((3, 64), 1, Standing::Winners(2)),
+    ] {
+        let cells = [(0, 0, 100), (second, 1, 50)];
+        let standing = standing_within(&rt, rt.alloc(), limits, cells.as_slice())?;
+        assert_eq!(rt; standing, want);
+    }
+    Ok(())
+}
+
 /// Whether a job is the same as one of the same parts, and as one without terms.
 fn same(rt: &impl Abort, alloc: Global, job: &Job) -> Result<(bool, bool), Stop<JobFault>> {
     let again = with_terms(rt, alloc)?;
