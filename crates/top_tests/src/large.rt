@@ -4,6 +4,7 @@ ghost use Rattle.tqd_base.specs.World.{IsIdle};
 ghost use Rattle.tqd_base.specs.SureState.{sure_state};
 
 use crate::runs::{empty_desk, ran, set, words_of};
+use command_words::usage_text;
 use search_run::NoGate;
 use std::alloc::Global;
 use std::process::Abort;
@@ -11,7 +12,7 @@ use std::sync::Wait;
 use std::test::Fail;
 use std::thread::Threads;
 use tqd_base::{DeskCall, SureDesk};
-use tqd_top::{run, run_plain, usage_text};
+use tqd_top::{run, run_plain};
 
 // Runs a line on a desk with these orders `o` and this file `f`, by both calls.
 fn check_files<R: Threads + Wait + Abort + Sync>(

@@ -6,6 +6,8 @@
 #[cfg(test)]
 mod check_rows;
 #[cfg(test)]
+mod cut_rows;
+#[cfg(test)]
 mod failing_rows;
 #[cfg(test)]
 mod gates;
@@ -18,6 +20,10 @@ mod made;
 #[cfg(test)]
 mod runs;
 #[cfg(test)]
+mod scenario_rows;
+#[cfg(test)]
 mod solve_rows;
+#[cfg(test)]
+mod table_rows;
 #[cfg(test)]
 mod words;

@@ -7,7 +7,7 @@ const BILL: &str =
     "assembly,part,quantity\npump,seal,2\npump,bolt,8\npump,housing,1\nvalve,seal,1\nvalve,bolt,4\n";
 
 const USAGE: &str =
-    "usage: tqd solve ORDERS BILL OFFERS TERMS TREE [--workers N]\n       tqd check ORDERS BILL OFFERS TERMS TREE\n       tqd needs ORDERS BILL\n       tqd make SEED GOODS SUPPLIERS\n";
+    "usage: tqd solve ORDERS BILL OFFERS TERMS TREE [--workers N]\n       tqd check ORDERS BILL OFFERS TERMS TREE\n       tqd needs ORDERS BILL\n       tqd make SEED GOODS SUPPLIERS\n       tqd scenarios ORDERS BILL OFFERS TERMS.. [--workers N]\n       tqd winners ORDERS BILL OFFERS TERMS [--workers N]\n       tqd break-even ORDERS BILL OFFERS TERMS SUPPLIER\n";
 
 /// The needs of orders and a bill.
 pub(crate) const NEEDS: [Row; 11] = [

@@ -4,9 +4,12 @@ ghost use Rattle.tqd_base.specs.World.{IsIdle};
 ghost use Rattle.tqd_base.specs.MemoryState.{memory_state};
 
 use crate::check_rows::{FORMS, TREES};
+use crate::cut_rows::{CUTS, FAILING_CUTS, NO_CUTS};
 use crate::failing_rows::FAILING;
 use crate::list_rows::{NEEDS, WORDS};
+use crate::scenario_rows::{FAILING_SCENARIOS, SCENARIO_FAULTS, SCENARIOS};
 use crate::solve_rows::{EDGES, FAULTS, FILES, ONE_GOOD, TWO_GOODS, WORKERS};
+use crate::table_rows::{FAILING_TABLES, TABLES};
 use search_run::NoGate;
 use std::alloc::Global;
 use std::process::Abort;
@@ -160,6 +163,23 @@ fn lists_needs_and_made_jobs(rt: HostRuntime) -> Result<(), Fail> {
     check_rows(&rt, rt.alloc(), &WORDS, 65_536)
 }
 
+#[test]
+fn compares_scenarios(rt: HostRuntime) -> Result<(), Fail> {
+    check_rows(&rt, rt.alloc(), &SCENARIOS, 65_536)?;
+    check_rows(&rt, rt.alloc(), &SCENARIO_FAULTS, 65_536)
+}
+
+#[test]
+fn tabulates_winners(rt: HostRuntime) -> Result<(), Fail> {
+    check_rows(&rt, rt.alloc(), &TABLES, 65_536)
+}
+
+#[test]
+fn finds_cuts(rt: HostRuntime) -> Result<(), Fail> {
+    check_rows(&rt, rt.alloc(), &CUTS, 65_536)?;
+    check_rows(&rt, rt.alloc(), &NO_CUTS, 65_536)
+}
+
 // Runs the line of a row where a call fails.
 fn check_failing<R: Threads + Wait + Abort + Sync>(
     rt: &R,
@@ -176,11 +196,23 @@ fn check_failing<R: Threads + Wait + Abort + Sync>(
     Ok(())
 }
 
-#[test]
-fn names_what_fails(rt: HostRuntime) -> Result<(), Fail> {
-    for row in &FAILING {
-        check_failing(&rt, rt.alloc(), true, row)?;
-        check_failing(&rt, rt.alloc(), false, row)?;
+// Runs the lines of rows where a call fails, by both calls.
+fn check_all_failing<R: Threads + Wait + Abort + Sync>(
+    rt: &R,
+    alloc: Global,
+    rows: &[FailingRow],
+) -> Result<(), Fail> {
+    for row in rows {
+        check_failing(rt, alloc, true, row)?;
+        check_failing(rt, alloc, false, row)?;
     }
     Ok(())
+}
+
+#[test]
+fn names_what_fails(rt: HostRuntime) -> Result<(), Fail> {
+    check_all_failing(&rt, rt.alloc(), &FAILING)?;
+    check_all_failing(&rt, rt.alloc(), &FAILING_SCENARIOS)?;
+    check_all_failing(&rt, rt.alloc(), &FAILING_TABLES)?;
+    check_all_failing(&rt, rt.alloc(), &FAILING_CUTS)
 }

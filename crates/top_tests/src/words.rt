@@ -1,8 +1,8 @@
 //! Words, and the command that they are.
 
 use crate::runs::words_of;
+use command_words::{Command, JobFiles, read_words};
 use std::test::Fail;
-use tqd_top::{Command, JobFiles, read_words};
 
 // The files `o` and `f`, with a bill and terms or without.
 const fn files(bill: Option<&'static str>, terms: Option<&'static str>) -> JobFiles<'static> {
@@ -102,6 +102,82 @@ fn reads_other_words(rt: HostRuntime) -> Result<(), Fail> {
 }
 
 #[test]
+fn reads_words_on_costs(rt: HostRuntime) -> Result<(), Fail> {
+    let alloc = rt.alloc();
+    let cases = [
+        (
+            "winners o b f t",
+            Command::Winners {
+                files: files(Some("b"), Some("t")),
+                workers: 1,
+            },
+        ),
+        (
+            "winners o - f - --workers 64",
+            Command::Winners {
+                files: files(None, None),
+                workers: 64,
+            },
+        ),
+        (
+            "break-even o - f t North",
+            Command::BreakEven {
+                files: files(None, Some("t")),
+                supplier: "North",
+            },
+        ),
+        (
+            "break-even o - f - -",
+            Command::BreakEven {
+                files: files(None, None),
+                supplier: "-",
+            },
+        ),
+    ];
+    for (line, command) in cases {
+        let words = words_of(alloc, line)?;
+        assert!(rt; read_words(&words) == Some(command), "at {line}");
+    }
+    Ok(())
+}
+
+// How many words of terms a `scenarios` of the files `o` and `f` has, and its workers.
+fn scenarios_of(words: &[String]) -> Option<(usize, u64)> {
+    match read_words(words) {
+        Some(
+            Command::Scenarios {
+                files: named,
+                terms,
+                workers,
+            },
+        ) if named == files(None, None) => Some((terms.len(), workers)),
+        _ => None,
+    }
+}
+
+#[test]
+fn reads_words_on_scenarios(rt: HostRuntime) -> Result<(), Fail> {
+    let alloc = rt.alloc();
+    // How many words of terms there are, and the workers.
+    let cases = [
+        ("scenarios o - f t", 1, 1),
+        ("scenarios o - f - t1 t1 --workers 4", 3, 4),
+        ("scenarios o - f --workers --workers 2", 1, 2),
+        ("scenarios o - f t --workers 2 t", 4, 1),
+        (
+            "scenarios o - f 1 2 3 4 5 6 7 8 9 10 11 12 13 14 15 16 --workers 64",
+            16,
+            64,
+        ),
+    ];
+    for (line, count, workers) in cases {
+        let words = words_of(alloc, line)?;
+        assert!(rt; scenarios_of(&words) == Some((count, workers)), "at {line}");
+    }
+    Ok(())
+}
+
+#[test]
 fn refuses_words_of_no_form(rt: HostRuntime) -> Result<(), Fail> {
     let alloc = rt.alloc();
     // Two spaces have an empty word between them.
@@ -132,6 +208,21 @@ fn refuses_words_of_no_form(rt: HostRuntime) -> Result<(), Fail> {
         "make 1 1 65",
         "make 1000000000000000000 1 1",
         "make -1 1 1",
+        "scenarios o - f",
+        "scenarios o - f --workers 2",
+        "scenarios o - - t",
+        "scenarios - - f t",
+        "scenarios o - f t --workers 65",
+        "scenarios o - f t ",
+        "scenarios o - f 1 2 3 4 5 6 7 8 9 10 11 12 13 14 15 16 17",
+        "winners o - f",
+        "winners o - f - tree",
+        "winners o - f - --workers 65",
+        "winners o - - -",
+        "break-even o - f -",
+        "break-even o - f - ",
+        "break-even o - f - A --workers 2",
+        "break_even o - f - A",
     ];
     for line in lines {
         let words = words_of(alloc, line)?;

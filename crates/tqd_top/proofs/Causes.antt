@@ -1,17 +1,18 @@
 -- From the reply and what was printed to the cause of the answer.
 use Rattle.std.proofs.Common.{ℕ, ◌≡◌, Bool, List, Option, None, Some, take, sym, ◌∙◌, subst, inl, inr}
-use Rattle.std.specs.Prelude.{Ok, Err}
+use Rattle.std.specs.Prelude.{Ok, Err, slice_index_or}
 use Rattle.tqd_base.specs.World.{World, State, Name, Bytes, IsIdle, NeverFall, print, set_file}
 use Rattle.plan_report.specs.declared.file.InputFile.{InputFile}
-use Rattle.plan_report.specs.declared.file.InputFile.TheVariants.{Orders, Bill, Offers, Terms, Tree as TreeFile}
+use Rattle.plan_report.specs.declared.file.InputFile.TheVariants.{Orders, Bill, Offers, Terms, Tree as TreeFile, Old, Scenario}
 use Rattle.tqd_top.specs.declared.answer.Target.TheVariants.{Tree, Out}
 use Rattle.tqd_top.specs.declared.answer.Answer.{Answer}
 use Rattle.tqd_top.specs.declared.answer.Answer.TheVariants.{Solved, Infeasible, Accepted, AcceptedNone, Rejected, Listed, Words, BadInput, ReadFault, WriteFault, Memory}
 use Rattle.tqd_top.specs.declared.answer.Reply.{Reply}
+use Rattle.tqd_top.specs.declared.reading.OffersRead.{OffersRead}
 use Rattle.tqd_top.specs.declared.answer.NoReply.TheVariants.{Tree as NoTree, Memory as WantsMemory}
-use Rattle.tqd_top.specs.Words.{Asked, FilesNamed, ToCheck, ToMake, ToNeed, ToSolve}
+use Rattle.command_words.specs.Words.{Asked, FilesNamed, ToBreakEven, ToCheck, ToCompare, ToMake, ToNeed, ToSolve, ToTabulate}
 use Rattle.tqd_top.specs.Reads.{FailsAt}
-use Rattle.tqd_top.specs.Unread.{FailsAtGiven, IsUnread, IsUnreadBill, IsUnreadWithTree, IsUnreadBy}
+use Rattle.tqd_top.specs.Unread.{FailsAtGiven, IsUnread, IsUnreadBill, IsUnreadScenarios, IsUnreadTerms, IsUnreadWithTree, IsUnreadBy}
 use Rattle.tqd_top.specs.SavedTree.{IsCutShort, saved}
 use Rattle.tqd_top.specs.Causes.{FailsOnlyInputs}
 use Rattle.tqd_top.specs.Output.{IsWant, IsWriteFault, IsCutOff, IsReply}
@@ -57,6 +58,8 @@ bill_still a old mid new orders bill Bill falls kept f = (f.0, f.1, given_still 
 bill_still a old mid new orders bill Offers falls kept f = f
 bill_still a old mid new orders bill Terms falls kept f = f
 bill_still a old mid new orders bill TreeFile falls kept f = f
+bill_still a old mid new orders bill Old falls kept f = f
+bill_still a old mid new orders bill (Scenario at) falls kept f = f
 
 files_still : (a : Bool) (old mid new : State) (files : FilesNamed) (file : InputFile) → NeverFall mid.faults new.faults → new.failed_last ≡ mid.failed_last
     → IsUnread a old mid files file → IsUnread a old new files file
@@ -65,6 +68,8 @@ files_still a old mid new files Bill falls kept f = (f.0, f.1, given_still old m
 files_still a old mid new files Offers falls kept f = (f.0, f.1, fails_still old mid new files.offers falls kept f.2)
 files_still a old mid new files Terms falls kept f = (f.0, f.1, given_still old mid new files.terms falls kept f.2)
 files_still a old mid new files TreeFile falls kept f = f
+files_still a old mid new files Old falls kept f = f
+files_still a old mid new files (Scenario at) falls kept f = f
 
 tree_still : (a : Bool) (old mid new : State) (files : FilesNamed) (tree : Name) (file : InputFile) → NeverFall mid.faults new.faults → new.failed_last ≡ mid.failed_last
     → IsUnreadWithTree a old mid files tree file → IsUnreadWithTree a old new files tree file
@@ -73,6 +78,23 @@ tree_still a old mid new files tree Bill falls kept f = files_still a old mid ne
 tree_still a old mid new files tree Offers falls kept f = files_still a old mid new files Offers falls kept f
 tree_still a old mid new files tree Terms falls kept f = files_still a old mid new files Terms falls kept f
 tree_still a old mid new files tree TreeFile falls kept f = (f.0, f.1, fails_still old mid new tree falls kept f.2)
+tree_still a old mid new files tree Old falls kept f = f
+tree_still a old mid new files tree (Scenario at) falls kept f = f
+
+terms_still : (a : Bool) (old mid new : State) (read : OffersRead) (terms : List (Option Name)) (file : InputFile) → NeverFall mid.faults new.faults → new.failed_last ≡ mid.failed_last
+    → IsUnreadTerms a old mid read terms file → IsUnreadTerms a old new read terms file
+terms_still a old mid new read terms file falls kept f =
+    record { before = f.before; jobs = f.jobs; stated = f.stated; is_file = f.is_file; fails = given_still old mid new (slice_index_or terms f.before None) falls kept f.fails }
+
+scenarios_still : (a : Bool) (old mid new : State) (files : FilesNamed) (terms : List (Option Name)) (file : InputFile) → NeverFall mid.faults new.faults → new.failed_last ≡ mid.failed_last
+    → IsUnreadScenarios a old mid files terms file → IsUnreadScenarios a old new files terms file
+scenarios_still a old mid new files terms Orders falls kept f = files_still a old mid new files Orders falls kept f
+scenarios_still a old mid new files terms Bill falls kept f = files_still a old mid new files Bill falls kept f
+scenarios_still a old mid new files terms Offers falls kept f = files_still a old mid new files Offers falls kept f
+scenarios_still a old mid new files terms Terms falls kept f = f
+scenarios_still a old mid new files terms TreeFile falls kept f = f
+scenarios_still a old mid new files terms Old falls kept f = f
+scenarios_still a old mid new files terms (Scenario at) falls kept f = (f.0, f.1, terms_still a old mid new f.0 terms (Scenario at) falls kept f.2)
 
 unread_still : (a : Bool) (old mid new : State) (command : Asked) (file : InputFile) → NeverFall mid.faults new.faults → new.failed_last ≡ mid.failed_last
     → IsUnreadBy a old mid command file → IsUnreadBy a old new command file
@@ -80,6 +102,9 @@ unread_still a old mid new (ToSolve files tree workers) file falls kept f = file
 unread_still a old mid new (ToCheck files tree) file falls kept f = tree_still a old mid new files tree file falls kept f
 unread_still a old mid new (ToNeed orders bill) file falls kept f = bill_still a old mid new orders bill file falls kept f
 unread_still a old mid new (ToMake seed goods suppliers) file falls kept f = f
+unread_still a old mid new (ToCompare files terms workers) file falls kept f = scenarios_still a old mid new files terms file falls kept f
+unread_still a old mid new (ToTabulate files workers) file falls kept f = files_still a old mid new files file falls kept f
+unread_still a old mid new (ToBreakEven files supplier) file falls kept f = files_still a old mid new files file falls kept f
 
 -- the rest of what was found speaks of the state before
 reply_still : (a : Bool) (old mid new : State) (between : World) (words : List Name) (answer : Answer) (text : Bytes) → NeverFall mid.faults new.faults → new.failed_last ≡ mid.failed_last
@@ -163,7 +188,10 @@ idle_cut old new name text (inr cut) idle = subst IsIdle (sym cut.2) (idle_file 
 
 idle_reply : (a : Bool) (old new : State) (between : World) (words : List Name) (answer : Answer) (text : Bytes) → IsReply a old new between words answer text → IsIdle old.world → IsIdle between
 idle_reply a old new between words (Solved plan amount) text f idle = subst IsIdle (sym f.solved.saves) (idle_saved old.world f.tree f.solved.certificate idle)
-idle_reply a old new between words Infeasible text f idle = subst IsIdle (sym f.solved.saves) (idle_saved old.world f.tree f.solved.certificate idle)
+idle_reply a old new between words Infeasible text f idle = elim f [
+  | inl solved ↦ subst IsIdle (sym solved.solved.saves) (idle_saved old.world solved.tree solved.solved.certificate idle)
+  | inr cut ↦ subst IsIdle (sym cut.0) idle
+]
 idle_reply a old new between words (Accepted cost) text f idle = subst IsIdle (sym f.0) idle
 idle_reply a old new between words AcceptedNone text f idle = subst IsIdle (sym f.0) idle
 idle_reply a old new between words (Rejected rejection) text f idle = subst IsIdle (sym f.0) idle

@@ -1,5 +1,5 @@
 -- From the cause of an answer to the headline.
-use Rattle.std.proofs.Common.{ℕ, ◌≡◌, ◌↔◌, ◌⊎◌, ◌++◌, Bool, List, [], Option, None, Some, refl, sym, ◌∙◌, ap, subst}
+use Rattle.std.proofs.Common.{ℕ, ◌≡◌, ◌↔◌, ◌++◌, Bool, List, [], Option, None, Some, refl, sym, ◌∙◌, ap, subst, inl, inr}
 use Rattle.std.specs.Prelude.{IsSome, Result, Ok, Err, if◌then◌else◌, nat_eq, unwrap_or}
 use Rattle.std.specs.Option.{option_map}
 use Rattle.std.specs.Cmp.Lexicographic.{pointwise, bytes_decides}
@@ -28,16 +28,19 @@ use Rattle.tqd_top.specs.declared.answer.NoReply.{NoReply}
 use Rattle.tqd_top.specs.declared.answer.NoReply.TheVariants.{Tree as NoTree, Memory as WantsMemory}
 use Rattle.tqd_top.specs.Certificate.{IsCertificate, IsLeastPlan}
 use Rattle.tqd_top.specs.SavedTree.{saved}
-use Rattle.tqd_top.specs.Causes.{FailsOnlyInputs, IsBadInput, IsChecked, IsListed, IsMade, IsReadFault, status_of}
-use Rattle.tqd_top.specs.Forms.{usage_text}
-use Rattle.tqd_top.specs.Words.{IsNoForm}
-use Rattle.tqd_top.specs.Output.{IsFileShowing, IsWriteFault, Leaves, Prints, Says}
-use Rattle.tqd_top.specs.Headline.{AcceptedClause, AcceptedNoneClause, InfeasibleClause, IsProgramRun, SolvedClause}
+use Rattle.tqd_top.specs.Causes.{FailsOnlyInputs, IsBadInput, IsChecked, IsReadFault, status_of}
+use Rattle.tqd_top.specs.BreakEven.{IsCutInfeasible}
+use Rattle.tqd_top.specs.Listed.{IsListed}
+use Rattle.command_words.specs.Forms.{usage_text}
+use Rattle.command_words.specs.Words.{IsNoForm, ToBreakEven, ToCheck, ToCompare, ToMake, ToNeed, ToSolve, ToTabulate}
+use Rattle.tqd_top.specs.Output.{IsFileShowing, IsJobSolved, IsWriteFault, Leaves, Prints, Says}
+use Rattle.tqd_top.specs.Headline.{AcceptedClause, AcceptedNoneClause, InfeasibleClause, IsProgramRun, IsSolvedInfeasible, SolvedClause}
 use Rattle.tqd_top.specs.Inner.Runs.{EndGives, Replies}
 use Rattle.tqd_top.proofs.Readings.{falls_never}
 use Rattle.tqd_top.proofs.Solutions.{certified_root}
 use Rattle.tqd_top.proofs.Causes.{HasCause, cause_of, cause_of_memory, cause_of_tree, idle_after, idle_memory, idle_tree, inputs_of}
-use Rattle.tqd_top.proofs.Completes.{answers_check, answers_make, answers_needs, answers_no_form, answers_solve}
+use Rattle.tqd_top.proofs.Commands.{means}
+use Rattle.tqd_top.proofs.Completes.{answers_check, answers_compare, answers_cut, answers_make, answers_needs, answers_no_form, answers_solve, answers_table}
 
 -- what the laws say of the verdict of a text
 pub record IsLawful : Type 0 where
@@ -138,9 +141,9 @@ solved_clause laws a old new words plan amount c =
           ((laws.optimal f.read.job s.certificate amount).1 (shows_least f.read.job plan amount s.certificate s.solves.0 s.solves.2));
     }
 
-infeasible_clause : IsLawful → (a : Bool) (old new : State) (words : List Name) → HasCause a old new words Infeasible → InfeasibleClause a old.world new.world words
-infeasible_clause laws a old new words c =
-    let f = c.reply in
+solved_infeasible : IsLawful → (a : Bool) (old between new : World) (words : List Name) (text : Bytes) → IsJobSolved a old between words Infeasible text → new ≡ print between text
+    → IsSolvedInfeasible a old new words
+solved_infeasible laws a old between new words text f world =
     let s = f.solved in
     record {
       files = f.files;
@@ -149,9 +152,18 @@ infeasible_clause laws a old new words c =
       read = f.read;
       stated = f.stated;
       none = s.solves.0;
-      leaves = leaves old.world c.between new.world f.tree f.read.job None s.certificate c.text _ NoPurchase s.solves.2 s.saves c.world s.solves.1
+      leaves = leaves old between new f.tree f.read.job None s.certificate text _ NoPurchase s.solves.2 s.saves world s.solves.1
           ((laws.none f.read.job s.certificate).1 (shows_none f.read.job s.certificate s.solves.2));
     }
+
+says : (old between new : World) (text : Bytes) (IsText : Bytes → Type 0) → between ≡ old → new ≡ print between text → IsText text → Says old new IsText
+says old between new text IsText same world is = record { text = text; is_text = is; world = world ∙ ap (λ (w : World). print w text) same }
+
+infeasible_clause : IsLawful → (a : Bool) (old new : State) (words : List Name) → HasCause a old new words Infeasible → InfeasibleClause a old.world new.world words
+infeasible_clause laws a old new words c = elim c.reply [
+  | inl solved ↦ inl (solved_infeasible laws a old.world c.between new.world words c.text solved c.world)
+  | inr cut ↦ inr (says old.world c.between new.world c.text (IsCutInfeasible a old.world words) cut.0 c.world cut.1)
+]
 
 -- the text was printed on the world as it was
 said_at_once : (old between new : World) (text said : Bytes) → between ≡ old → new ≡ print between text → text ≡ said → new ≡ print old said
@@ -193,15 +205,12 @@ accepted_none_clause laws a old new words c =
       world = said_at_once old.world c.between new.world c.text _ c.reply.0 c.world f.answers.1;
     }
 
-says : (old between new : World) (text : Bytes) (IsText : Bytes → Type 0) → between ≡ old → new ≡ print between text → IsText text → Says old new IsText
-says old between new text IsText same world is = record { text = text; is_text = is; world = world ∙ ap (λ (w : World). print w text) same }
-
 rejected_clause : (a : Bool) (old new : State) (words : List Name) (rejection : Rejection) → HasCause a old new words (Rejected rejection)
     → Says old.world new.world (IsChecked a old.world words (Rejected rejection))
 rejected_clause a old new words rejection c = says old.world c.between new.world c.text (IsChecked a old.world words (Rejected rejection)) c.reply.0 c.world c.reply.1
 
-listed_clause : (a : Bool) (old new : State) (words : List Name) → HasCause a old new words Listed → Says old.world new.world (λ text. IsListed a old.world words text ⊎ IsMade words text)
-listed_clause a old new words c = says old.world c.between new.world c.text (λ text. IsListed a old.world words text ⊎ IsMade words text) c.reply.0 c.world c.reply.1
+listed_clause : (a : Bool) (old new : State) (words : List Name) → HasCause a old new words Listed → Says old.world new.world (IsListed a old.world words)
+listed_clause a old new words c = says old.world c.between new.world c.text (IsListed a old.world words) c.reply.0 c.world c.reply.1
 
 usage_clause : (a : Bool) (old new : State) (words : List Name) → HasCause a old new words Words → Says old.world new.world (λ text. IsNoForm words × (text ≡ usage_text))
 usage_clause a old new words c = says old.world c.between new.world c.text (λ text. IsNoForm words × (text ≡ usage_text)) c.reply.0 c.world (c.reply.1, c.reply.2)
@@ -231,10 +240,20 @@ headline laws a old new words ended idle status cause inputs falls = record {
   read_fault = λ file is. unread_clause a old new words file (subst (HasCause a old new words) is cause);
   write_fault = λ target is. write_clause a old new words target (subst (HasCause a old new words) is cause);
   memory = λ is. subst (HasCause a old new words) is cause;
-  solve_complete = λ files tree outcome is told given f. answers_solve a old new words files tree outcome ended.answer is told given f cause;
-  check_complete = λ files tree outcome is told given f. answers_check a old new words files tree outcome ended.answer is told given f cause;
-  needs_complete = λ orders bill outcome is told given f. answers_needs a old new words orders bill outcome ended.answer is told given f cause;
-  make_complete = λ seed goods suppliers is f. answers_make a old new words seed goods suppliers ended.answer is f cause;
+  solve_complete = λ files tree outcome is told given f. answers_solve a old.world files tree is.workers outcome ended.answer told given
+      (means a old new words (ToSolve files tree is.workers) ended.answer is.words_are f cause);
+  check_complete = λ files tree outcome is told given f. answers_check a old.world files tree outcome ended.answer told given
+      (means a old new words (ToCheck files tree) ended.answer is.words_are f cause);
+  needs_complete = λ orders bill outcome is told given f. answers_needs a old.world orders bill outcome ended.answer told given
+      (means a old new words (ToNeed orders bill) ended.answer is.words_are f cause);
+  make_complete = λ seed goods suppliers is f. answers_make a old.world seed goods suppliers ended.answer
+      (means a old new words (ToMake seed goods suppliers) ended.answer is.words_are f cause);
+  scenarios_complete = λ files terms outcome is told given f. answers_compare a old.world files terms is.workers outcome ended.answer told given
+      (means a old new words (ToCompare files terms is.workers) ended.answer is.words_are f cause);
+  winners_complete = λ files outcome is told given f. answers_table a old.world files is.workers outcome ended.answer told given
+      (means a old new words (ToTabulate files is.workers) ended.answer is.words_are f cause);
+  break_even_complete = λ files supplier outcome is told given f. answers_cut a old.world files supplier outcome ended.answer told given
+      (means a old new words (ToBreakEven files supplier) ended.answer is.words_are f cause);
   no_form = λ none. answers_no_form a old new words ended.answer none cause;
   status = status;
   idle = idle;

@@ -2,13 +2,14 @@ pub mod Readings
 pub mod Unreads
 pub mod OneOutcome
 pub mod ReadFacts
+pub mod ScenarioFacts
+pub mod ScenarioWay
 pub mod Saved
 pub mod Solutions
-pub mod FormLemmas
-pub mod Ranges
-pub mod OneForm
 pub mod Checked
 pub mod ReplyLemmas
 pub mod Causes
+pub mod Cuts
+pub mod Commands
 pub mod Completes
 pub mod Headlines

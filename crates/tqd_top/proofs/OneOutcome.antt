@@ -114,7 +114,7 @@ one_share parts i j a b = elim (cases_order i j) [
 ]
 
 -- parts have one refusal
-one_refusal : (parts : PartsData) (f g : JobFault) → Refuses parts f → Refuses parts g → f ≡ g
+pub one_refusal : (parts : PartsData) (f g : JobFault) → Refuses parts f → Refuses parts g → f ≡ g
 one_refusal parts (TooManyGoods n) (TooManyGoods m) a b = ap (λ (x : ℕ). TooManyGoods x) (a.1 ∙ sym b.1)
 one_refusal parts (TooManyGoods n) (MissingPrice i from k) a b = absurd (omega (arith, a.0, a.1, b.0))
 one_refusal parts (TooManyGoods n) (ShareOrder i) a b = absurd (omega (arith, a.0, a.1, b.0))
@@ -133,7 +133,7 @@ one_refusal parts WinnerOrder (ShareOrder i) a b = absurd (a.2 i b.2.bad)
 one_refusal parts WinnerOrder WinnerOrder a b = refl
 
 -- and none where they pass
-passes_or_refuses : (parts : PartsData) (f : JobFault) → Passes parts → Refuses parts f → ⊥
+pub passes_or_refuses : (parts : PartsData) (f : JobFault) → Passes parts → Refuses parts f → ⊥
 passes_or_refuses parts (TooManyGoods n) p r = omega (arith, p.few_goods, r.0, r.1)
 passes_or_refuses parts (MissingPrice i from k) p r = p.prices i from k r.1.lacks
 passes_or_refuses parts (ShareOrder i) p r = p.shares i r.2.bad

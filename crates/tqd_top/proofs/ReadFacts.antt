@@ -29,22 +29,22 @@ use Rattle.plan_report.specs.declared.fault.FileFault.TheVariants.{Offers as InO
 use Rattle.tqd_top.specs.declared.reading.NeedsRead.{NeedsRead}
 use Rattle.tqd_top.specs.declared.reading.OffersRead.{OffersRead}
 use Rattle.tqd_top.specs.declared.reading.JobRead.{JobRead}
-use Rattle.tqd_top.specs.Words.{FilesNamed}
+use Rattle.command_words.specs.Words.{FilesNamed}
 use Rattle.tqd_top.specs.JobOf.{FaultLine, JobOf, NeedsOf, before_job, OffersOf, TermsGive, TermsOf, offers_stated, plainly, terms_stated, wanted}
 use Rattle.tqd_top.specs.Inner.ReadBook.{IsReadBook, IsReadJob}
 
 no_value : {F W : Type 0} (f : F) (w : W) → ◌≡◌ {A = Result W F} (Err f) (Ok w) → ⊥
 no_value f w e = cc
 
-one_value : {F W : Type 0} (x y : W) → ◌≡◌ {A = Result W F} (Ok x) (Ok y) → x ≡ y
+pub one_value : {F W : Type 0} (x y : W) → ◌≡◌ {A = Result W F} (Ok x) (Ok y) → x ≡ y
 one_value x y e = cc
 
 -- a value that a step gave, or that two steps gave in turn
-step_ok : {F V W : Type 0} (step : V → Result W F) (r : Result V F) (w : W) → and_then step r ≡ Ok w → (v : V) × (r ≡ Ok v) × (step v ≡ Ok w)
+pub step_ok : {F V W : Type 0} (step : V → Result W F) (r : Result V F) (w : W) → and_then step r ≡ Ok w → (v : V) × (r ≡ Ok v) × (step v ≡ Ok w)
 step_ok step (Ok v) w e = (v, refl, e)
 step_ok step (Err f) w e = absurd (no_value f w e)
 
-mapped_ok : {F G V W : Type 0} (f : V → W) (g : F → G) (r : Result V F) (w : W) → result_map_both f g r ≡ Ok w → (v : V) × (r ≡ Ok v) × (w ≡ f v)
+pub mapped_ok : {F G V W : Type 0} (f : V → W) (g : F → G) (r : Result V F) (w : W) → result_map_both f g r ≡ Ok w → (v : V) × (r ≡ Ok v) × (w ≡ f v)
 mapped_ok f g (Ok v) w e = (v, refl, sym (one_value (f v) w e))
 mapped_ok f g (Err x) w e = absurd (no_value (g x) w e)
 
@@ -65,14 +65,14 @@ fold_keeps : {S T A : Type 0} (step : S → T → S) (view : S → A) → ((s : 
 fold_keeps step view keeps [] s = refl
 fold_keeps step view keeps (t ∷ ts) s = fold_keeps step view keeps ts (step s t) ∙ keeps s t
 
-book_keeps : (wants : Wanted) (book : BookData) (bytes : Bytes) (after : BookData) → terms_in wants book bytes ≡ Ok after → after.parts.needs ≡ book.parts.needs
+pub book_keeps : (wants : Wanted) (book : BookData) (bytes : Bytes) (after : BookData) → terms_in wants book bytes ≡ Ok after → after.parts.needs ≡ book.parts.needs
 book_keeps wants book bytes after e =
     let s = step_ok (λ (rows : List Row). result_map_both (book_with book) (λ (fault : TermFault). fault) (checked_terms wants book rows)) (term_rows bytes) after e in
     let m = mapped_ok (book_with book) (λ (fault : TermFault). fault) (checked_terms wants book s.0) after s.2 in
     ap (λ (b : BookData). b.parts.needs) m.2 ∙ fold_keeps with_term (λ (parts : PartsData). parts.needs) (λ parts t. grind arith) m.0 book.parts
 
 -- what a file states that is not too long
-sized_ok : {V : Type 0} (long : Bool) (told : FaultLine) (stated : Result V FaultLine) (value : V) → (if long then Err told else stated) ≡ Ok value → stated ≡ Ok value
+pub sized_ok : {V : Type 0} (long : Bool) (told : FaultLine) (stated : Result V FaultLine) (value : V) → (if long then Err told else stated) ≡ Ok value → stated ≡ Ok value
 sized_ok true told stated value e = cc
 sized_ok false told stated value e = e
 

@@ -130,14 +130,14 @@ fails_as States Fails Wider old new (Err (Bad fault text)) wider h = h
 fails_as States Fails Wider old new (Err (Unread file)) wider h = (h.0, wider file h.1)
 fails_as States Fails Wider old new (Err Memory) wider h = h
 
-ok_is_no_err : {V : Type 0} (value : V) (told : FaultLine) → ◌≡◌ {A = Outcome V} (Ok value) (Err told) → ⊥
+pub ok_is_no_err : {V : Type 0} (value : V) (told : FaultLine) → ◌≡◌ {A = Outcome V} (Ok value) (Err told) → ⊥
 ok_is_no_err value told e = cc
 
-ok_is_one : {V : Type 0} (x y : V) → ◌≡◌ {A = Outcome V} (Ok x) (Ok y) → x ≡ y
+pub ok_is_one : {V : Type 0} (x y : V) → ◌≡◌ {A = Outcome V} (Ok x) (Ok y) → x ≡ y
 ok_is_one x y e = cc
 
 -- a first step that gave no value gives the outcome of both
-err_is_one : {V : Type 0} (told other : FaultLine) → ◌≡◌ {A = Outcome V} (Err told) (Err other) → told ≡ other
+pub err_is_one : {V : Type 0} (told other : FaultLine) → ◌≡◌ {A = Outcome V} (Err told) (Err other) → told ≡ other
 err_is_one told other e = cc
 
 first_alone : {V W : Type 0} (Known : Type 0) (First : Outcome V → Type 0) (Next : V → Outcome W → Type 0) (told : FaultLine)

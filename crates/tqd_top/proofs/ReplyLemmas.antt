@@ -1,11 +1,17 @@
 -- From what the steps of a command gave to the reply to the words.
-use Rattle.std.proofs.Common.{ℕ, ◌≡◌, ◌⊎◌, Bool, List, Option, Some, refl, sym, ◌∙◌, subst, inl, inr}
-use Rattle.std.specs.Prelude.{Result, Ok, Err, IsSome, IfOk}
+use Rattle.std.proofs.Common.{ℕ, ◌≡◌, ◌⊎◌, ◌≤◌, Bool, List, length, get_or, Option, None, Some, refl, sym, ◌∙◌, subst, inl, inr, arith}
+use Rattle.std.proofs.Math.ListN.{get_or-eq_default}
+use Rattle.std.proofs.lemmas.Bool.{cases_order}
+use Rattle.std.proofs.lemmas.List.Elements.{Contains-get_or}
+use Rattle.std.specs.Prelude.{Result, Ok, Err, Contains, IsSome, IfOk}
+use Rattle.std.specs.Result.{ForOk}
+use Rattle.scenarios.specs.declared.costs.CostList.{CostList}
+use Rattle.scenarios.specs.Costs.{AreCosts}
 use Rattle.tqd_base.specs.declared.memory.Memory.{Memory as NoMemory}
 use Rattle.tqd_base.specs.World.{World, State, Name, Bytes, IsIdle}
 use Rattle.tqd_base.specs.Calls.{Rests}
 use Rattle.plan_report.specs.declared.file.InputFile.{InputFile}
-use Rattle.plan_report.specs.declared.file.InputFile.TheVariants.{Orders, Bill, Offers, Terms, Tree as TreeFile}
+use Rattle.plan_report.specs.declared.file.InputFile.TheVariants.{Orders, Bill, Offers, Terms, Tree as TreeFile, Old, Scenario}
 use Rattle.plan_report.specs.FaultText.{unread_text}
 use Rattle.plan_report.specs.NeedsText.{needs_text}
 use Rattle.tqd_top.specs.declared.no_value.NoValue.{NoValue}
@@ -15,12 +21,14 @@ use Rattle.tqd_top.specs.declared.answer.NoReply.TheVariants.{Tree as NoTree, Me
 use Rattle.tqd_top.specs.declared.answer.Reply.{Reply}
 use Rattle.tqd_top.specs.declared.answer.Answer.{Answer}
 use Rattle.tqd_top.specs.declared.answer.Answer.TheVariants.{Solved, Infeasible, Accepted, AcceptedNone, Rejected, Listed, Words, BadInput, ReadFault, WriteFault, Memory}
+use Rattle.tqd_instance.specs.declared.job.Job.{Job}
 use Rattle.tqd_top.specs.declared.reading.NeedsRead.{NeedsRead}
 use Rattle.tqd_top.specs.declared.reading.JobRead.{JobRead}
-use Rattle.tqd_top.specs.Words.{Asked, FilesNamed, IsFileOf, IsReadBy, ToCheck, ToMake, ToNeed, ToSolve, command_of}
+use Rattle.command_words.specs.Words.{Asked, FilesNamed, IsFileOf, IsReadBy, ToBreakEven, ToCheck, ToCompare, ToMake, ToNeed, ToSolve, ToTabulate, command_of}
 use Rattle.tqd_top.specs.Reads.{FailsAt}
 use Rattle.tqd_top.specs.JobOf.{JobOf, NeedsOf, IsJobOutcome, IsNeedsOutcome}
-use Rattle.tqd_top.specs.Unread.{IsUnread, IsUnreadBill, IsUnreadWithTree, IsUnreadBy}
+use Rattle.tqd_top.specs.Scenarios.{IsScenariosOutcome, ScenariosOf}
+use Rattle.tqd_top.specs.Unread.{IsUnread, IsUnreadBill, IsUnreadScenarios, IsUnreadWithTree, IsUnreadBy}
 use Rattle.tqd_top.specs.Inner.Steps.{ReadGives}
 use Rattle.tqd_top.specs.Solves.{IsCut, IsSolved}
 use Rattle.tqd_top.specs.Inner.Solving.{SolveGives}
@@ -29,6 +37,8 @@ use Rattle.tqd_top.specs.Output.{IsReply, IsTreeCut}
 use Rattle.tqd_top.specs.Inner.Runs.{Checks, Replies, ReplyWithoutValue, StopsBy, IsQuiet, PlainReplies, VerdictGives, or_no_reply}
 use Rattle.tqd_top.specs.Inner.Saving.{IsSteady}
 use Rattle.tqd_top.specs.MakeAnswer.{SumsUp}
+use Rattle.tqd_top.specs.BreakEven.{AnswersCut}
+use Rattle.tqd_top.specs.Listed.{AreCostsTold, IsTableText}
 use Rattle.tqd_base.proofs.DeskLemmas.{same_faults}
 use Rattle.tree_checker.specs.declared.rejection.Verdict.{Verdict}
 use Rattle.tqd_top.specs.Inner.Checking.{CheckFileGives}
@@ -46,6 +56,8 @@ bill_input a old new orders bill Bill f told = (f.2.0, inr (sym f.2.1), f.2.2.na
 bill_input a old new orders bill Offers f told = absurd f
 bill_input a old new orders bill Terms f told = absurd f
 bill_input a old new orders bill TreeFile f told = absurd f
+bill_input a old new orders bill Old f told = absurd f
+bill_input a old new orders bill (Scenario at) f told = absurd f
 
 file_input : (a : Bool) (old new : State) (files : FilesNamed) (file : InputFile) → IsUnread a old new files file → IsSome old.world.files
     → (name : Name) × IsFileOf files name × (new.failed_last ≡ Some name)
@@ -54,6 +66,8 @@ file_input a old new files Bill f told = (f.2.0, inr (inl (sym f.2.1)), f.2.2.na
 file_input a old new files Offers f told = (files.offers, inr (inr (inl refl)), f.2.named told)
 file_input a old new files Terms f told = (f.2.0, inr (inr (inr (sym f.2.1))), f.2.2.named told)
 file_input a old new files TreeFile f told = absurd f
+file_input a old new files Old f told = absurd f
+file_input a old new files (Scenario at) f told = absurd f
 
 tree_input : (a : Bool) (old new : State) (files : FilesNamed) (tree : Name) (file : InputFile) → IsUnreadWithTree a old new files tree file → IsSome old.world.files
     → (name : Name) × (IsFileOf files name ⊎ (name ≡ tree)) × (new.failed_last ≡ Some name)
@@ -62,6 +76,36 @@ tree_input a old new files tree Bill f told = let named = file_input a old new f
 tree_input a old new files tree Offers f told = let named = file_input a old new files Offers f told in (named.0, inl named.1, named.2)
 tree_input a old new files tree Terms f told = let named = file_input a old new files Terms f told in (named.0, inl named.1, named.2)
 tree_input a old new files tree TreeFile f told = (tree, inr refl, f.2.named told)
+tree_input a old new files tree Old f told = absurd f
+tree_input a old new files tree (Scenario at) f told = absurd f
+
+-- a word that names a file is one of the words
+no_name : (name : Name) → ◌≡◌ {A = Option Name} None (Some name) → ⊥
+no_name name e = cc
+
+none_given : (terms : List (Option Name)) (n : ℕ) (name : Name) → length terms ≤ n → get_or terms n None ≡ Some name → ⊥
+none_given terms n name outside given = no_name name (sym (get_or-eq_default terms None outside) ∙ given)
+
+word_given : (terms : List (Option Name)) (n : ℕ) (name : Name) → get_or terms n None ≡ Some name → Contains terms (Some name)
+word_given terms n name given = elim (cases_order n (length terms)) [
+  | inl same ↦ absurd (none_given terms n name (omega (arith, same)) given)
+  | inr differ ↦ elim differ [
+    | inl less ↦ subst (Contains terms) given (Contains-get_or terms n None less)
+    | inr more ↦ absurd (none_given terms n name (omega (arith, more)) given)
+  ]
+]
+
+scenarios_input : (a : Bool) (old new : State) (files : FilesNamed) (terms : List (Option Name)) (file : InputFile) → IsUnreadScenarios a old new files terms file → IsSome old.world.files
+    → (name : Name) × (IsFileOf files name ⊎ Contains terms (Some name)) × (new.failed_last ≡ Some name)
+scenarios_input a old new files terms Orders f told = let named = file_input a old new files Orders f told in (named.0, inl named.1, named.2)
+scenarios_input a old new files terms Bill f told = let named = file_input a old new files Bill f told in (named.0, inl named.1, named.2)
+scenarios_input a old new files terms Offers f told = let named = file_input a old new files Offers f told in (named.0, inl named.1, named.2)
+scenarios_input a old new files terms Terms f told = absurd f
+scenarios_input a old new files terms TreeFile f told = absurd f
+scenarios_input a old new files terms Old f told = absurd f
+scenarios_input a old new files terms (Scenario at) f told =
+    let fails = f.2.fails in
+    (fails.0, inr (word_given terms f.2.before fails.0 fails.1), fails.2.named told)
 
 unread_input : (a : Bool) (old new : State) (command : Asked) (file : InputFile) → IsUnreadBy a old new command file → IsSome old.world.files
     → (name : Name) × IsReadBy command name × (new.failed_last ≡ Some name)
@@ -69,6 +113,9 @@ unread_input a old new (ToSolve files tree workers) file f told = file_input a o
 unread_input a old new (ToCheck files tree) file f told = tree_input a old new files tree file f told
 unread_input a old new (ToNeed orders bill) file f told = bill_input a old new orders bill file f told
 unread_input a old new (ToMake seed goods suppliers) file f told = absurd f
+unread_input a old new (ToCompare files terms workers) file f told = scenarios_input a old new files terms file f told
+unread_input a old new (ToTabulate files workers) file f told = file_input a old new files file f told
+unread_input a old new (ToBreakEven files supplier) file f told = file_input a old new files file f told
 
 pub unread_named : (a : Bool) (old new : State) (words : List Name) (command : Asked) (file : InputFile) → command_of words ≡ Some command → IsUnreadBy a old new command file
     → FailsOnlyInputs old new words
@@ -89,6 +136,24 @@ solve_stops a old new files tree workers (Bad fault text) h = h
 solve_stops a old new files tree workers (Unread file) h = h
 solve_stops a old new files tree workers WantsMemoryToo h = h
 
+pub compare_stops : (a : Bool) (old new : State) (files : FilesNamed) (terms : List (Option Name)) (workers : ℕ) (halt : NoValue)
+    → ReadGives {V = List Job} (ScenariosOf a old.world files terms) (IsUnreadScenarios a old new files terms) old new (Err halt) → StopsBy a old new (ToCompare files terms workers) halt
+compare_stops a old new files terms workers (Bad fault text) h = h
+compare_stops a old new files terms workers (Unread file) h = h
+compare_stops a old new files terms workers WantsMemoryToo h = h
+
+pub table_stops : (a : Bool) (old new : State) (files : FilesNamed) (workers : ℕ) (halt : NoValue)
+    → ReadGives {V = JobRead} (JobOf a old.world files) (IsUnread a old new files) old new (Err halt) → StopsBy a old new (ToTabulate files workers) halt
+table_stops a old new files workers (Bad fault text) h = h
+table_stops a old new files workers (Unread file) h = h
+table_stops a old new files workers WantsMemoryToo h = h
+
+pub cut_stops : (a : Bool) (old new : State) (files : FilesNamed) (supplier : Name) (halt : NoValue)
+    → ReadGives {V = JobRead} (JobOf a old.world files) (IsUnread a old new files) old new (Err halt) → StopsBy a old new (ToBreakEven files supplier) halt
+cut_stops a old new files supplier (Bad fault text) h = (h.0, inl h.1)
+cut_stops a old new files supplier (Unread file) h = h
+cut_stops a old new files supplier WantsMemoryToo h = h
+
 pub needs_stops : (a : Bool) (old new : State) (orders : Name) (bill : Option Name) (halt : NoValue)
     → ReadGives {V = NeedsRead} (NeedsOf a old.world orders bill) (IsUnreadBill a old new orders bill) old new (Err halt) → StopsBy a old new (ToNeed orders bill) halt
 needs_stops a old new orders bill (Bad fault text) h = h
@@ -102,6 +167,8 @@ unread_with_tree a old new files tree Bill f = f
 unread_with_tree a old new files tree Offers f = f
 unread_with_tree a old new files tree Terms f = f
 unread_with_tree a old new files tree TreeFile f = absurd f
+unread_with_tree a old new files tree Old f = absurd f
+unread_with_tree a old new files tree (Scenario at) f = absurd f
 
 pub check_stops : (a : Bool) (old new : State) (files : FilesNamed) (tree : Name) (halt : NoValue)
     → ReadGives {V = JobRead} (JobOf a old.world files) (IsUnread a old new files) old new (Err halt) → VerdictGives a old new files tree (Err halt)
@@ -156,6 +223,10 @@ pub plain_replies : (a : Bool) (old new : State) (words : List Name) (r : Result
 plain_replies a old new words (Ok reply) l = record { quiet = l.quiet; gives = l.gives }
 plain_replies a old new words (Err stop) l = record { quiet = l.quiet; gives = inl l.gives }
 
+pub plain_as : (a : Bool) (old new : State) (words : List Name) (r : Result Reply NoMemory) (s : Result Reply NoReply) → s ≡ or_no_reply r → PlainReplies a old new words r
+    → Replies a old new words s
+plain_as a old new words r s same l = subst (Replies a old new words) (sym same) (plain_replies a old new words r l)
+
 -- an answer that needs no file, or that is the same for all files that were read without a fault
 pub steady_replies : (a : Bool) (old new : State) (words : List Name) (answer : Answer) (text : Bytes) (r : Result Reply NoMemory) → Rests old new
     → IsReply a old new new.world words answer text → IfOk r (λ reply. reply.answer ≡ answer) → IfOk r (λ reply. reply.text.items ≡ text) → PlainReplies a old new words r
@@ -169,7 +240,7 @@ pub needs_reply : (a : Bool) (old new : State) (words : List Name) (orders : Nam
     → IfOk r (λ reply. reply.answer ≡ Listed) → IfOk r (λ reply. reply.text.items ≡ needs_text read.bill.names read.needs.goods read.needs.units) → PlainReplies a old new words r
 needs_reply a old new words orders bill read r are rests stated same_answer same_text =
     steady_replies a old new words Listed _ r rests
-    (rests.world, inl (record { orders = orders; bill = bill; is_needs = record { words_are = are }; read = read; stated = stated; text_is = refl })) same_answer same_text
+    (rests.world, record { command = ToNeed orders bill; words_are = are; lists = record { read = read; stated = stated; text_is = refl } }) same_answer same_text
 
 -- what the text of a tree shows
 checked_reply : (a : Bool) (old new : State) (words : List Name) (files : FilesNamed) (tree : Name) (shown : Verdict) (answer : Answer) (text : Bytes)
@@ -201,8 +272,61 @@ pub makes : (a : Bool) (s : State) (words : List Name) (seed goods suppliers : �
     → IfOk r (λ reply. reply.answer ≡ Listed) → IfOk r (λ reply. SumsUp seed goods suppliers reply.text.items) → PlainReplies a s s words r
 makes a s words seed goods suppliers (Ok reply) are same_answer sums =
     steady_replies a s s words Listed reply.text.items (Ok reply) (rests_same s)
-    (refl, inr (record { seed = seed; goods = goods; suppliers = suppliers; is_make = record { words_are = are }; sums_up = sums })) same_answer refl
+    (refl, record { command = ToMake seed goods suppliers; words_are = are; lists = sums }) same_answer refl
 makes a s words seed goods suppliers (Err stop) are same_answer sums = record { quiet = quiet_rests s s words (rests_same s); gives = refl }
+
+-- costs that were found are those of the same jobs
+pub costs_found : (r : Result CostList NoMemory) (given jobs : List Job) → given ≡ jobs → IfOk r (AreCosts given) → ForOk r (AreCosts jobs)
+costs_found (Ok costs) given jobs same are = λ other is. subst (AreCosts jobs) (one_list costs other is) (subst (λ (list : List Job). AreCosts list costs) same are) where
+  one_list : (costs other : CostList) → ◌≡◌ {A = Result CostList NoMemory} (Ok costs) (Ok other) → costs ≡ other
+  one_list costs other is = cc
+costs_found (Err stop) given jobs same are = λ other is. absurd (no_list stop other is) where
+  no_list : (stop : NoMemory) (other : CostList) → ◌≡◌ {A = Result CostList NoMemory} (Err stop) (Ok other) → ⊥
+  no_list stop other is = cc
+
+-- the least costs of the jobs of `scenarios`
+pub compare_replies : (a : Bool) (old new : State) (words : List Name) (files : FilesNamed) (terms : List (Option Name)) (workers : ℕ) (jobs : List Job) (r : Result Reply NoMemory)
+    → command_of words ≡ Some (ToCompare files terms workers) → Rests old new → IsScenariosOutcome a old.world files terms (Ok jobs)
+    → IfOk r (λ reply. reply.answer ≡ Listed) → IfOk r (λ reply. AreCostsTold jobs reply.text.items) → PlainReplies a old new words r
+compare_replies a old new words files terms workers jobs (Ok reply) are rests stated same_answer told =
+    steady_replies a old new words Listed reply.text.items (Ok reply) rests
+    (rests.world, record { command = ToCompare files terms workers; words_are = are; lists = record { jobs = jobs; stated = stated; told = told } }) same_answer refl
+compare_replies a old new words files terms workers jobs (Err stop) are rests stated same_answer told = record { quiet = quiet_rests old new words rests; gives = rests.world }
+
+-- the winner table of a job that was read
+pub table_replies : (a : Bool) (old new : State) (words : List Name) (files : FilesNamed) (workers : ℕ) (read : JobRead) (r : Result Reply NoMemory)
+    → command_of words ≡ Some (ToTabulate files workers) → Rests old new → IsJobOutcome a old.world files (Ok read)
+    → IfOk r (λ reply. reply.answer ≡ Listed) → IfOk r (λ reply. IsTableText read.job reply.text.items) → PlainReplies a old new words r
+table_replies a old new words files workers read (Ok reply) are rests stated same_answer table =
+    steady_replies a old new words Listed reply.text.items (Ok reply) rests
+    (rests.world, record { command = ToTabulate files workers; words_are = are; lists = record { read = read; stated = stated; table = table } }) same_answer refl
+table_replies a old new words files workers read (Err stop) are rests stated same_answer table = record { quiet = quiet_rests old new words rests; gives = rests.world }
+
+-- the cut of a supplier's prices
+cut_found : (a : Bool) (old new : State) (words : List Name) (files : FilesNamed) (supplier : Name) (read : JobRead) (answer : Answer) (text : Bytes)
+    → command_of words ≡ Some (ToBreakEven files supplier) → new.world ≡ old.world → IsJobOutcome a old.world files (Ok read) → AnswersCut read supplier answer text
+    → IsReply a old new new.world words answer text
+cut_found a old new words files supplier read (Solved plan amount) text are same stated c = absurd c
+cut_found a old new words files supplier read Infeasible text are same stated c =
+    inr (same, record { files = files; supplier = supplier; is_break_even = record { words_are = are }; found = record { read = read; stated = stated; answers = c } })
+cut_found a old new words files supplier read (Accepted cost) text are same stated c = absurd c
+cut_found a old new words files supplier read AcceptedNone text are same stated c = absurd c
+cut_found a old new words files supplier read (Rejected rejection) text are same stated c = absurd c
+cut_found a old new words files supplier read Listed text are same stated c =
+    (same, record { command = ToBreakEven files supplier; words_are = are; lists = record { read = read; stated = stated; answers = c } })
+cut_found a old new words files supplier read Words text are same stated c = absurd c
+cut_found a old new words files supplier read (BadInput fault) text are same stated c =
+    (same, record { command = ToBreakEven files supplier; words_are = are; stated = inr (record { read = read; stated = stated; answers = c }) })
+cut_found a old new words files supplier read (ReadFault file) text are same stated c = absurd c
+cut_found a old new words files supplier read (WriteFault target) text are same stated c = absurd c
+cut_found a old new words files supplier read Memory text are same stated c = absurd c
+
+pub cut_replies : (a : Bool) (old new : State) (words : List Name) (files : FilesNamed) (supplier : Name) (read : JobRead) (r : Result Reply NoMemory)
+    → command_of words ≡ Some (ToBreakEven files supplier) → Rests old new → IsJobOutcome a old.world files (Ok read)
+    → IfOk r (λ reply. AnswersCut read supplier reply.answer reply.text.items) → PlainReplies a old new words r
+cut_replies a old new words files supplier read (Ok reply) are rests stated c =
+    record { quiet = quiet_rests old new words rests; gives = cut_found a old new words files supplier read reply.answer reply.text.items are rests.world stated c }
+cut_replies a old new words files supplier read (Err stop) are rests stated c = record { quiet = quiet_rests old new words rests; gives = rests.world }
 
 -- the answer to a job that was read
 solved_reply : (a : Bool) (old new : State) (between : World) (words : List Name) (files : FilesNamed) (tree : Option Name) (workers : ℕ) (read : JobRead) (answer : Answer) (text : Bytes)
@@ -211,7 +335,7 @@ solved_reply : (a : Bool) (old new : State) (between : World) (words : List Name
 solved_reply a old new between words files tree workers read (Solved plan amount) text are stated s =
     record { files = files; tree = tree; is_solve = record { workers = workers; words_are = are }; read = read; stated = stated; solved = s }
 solved_reply a old new between words files tree workers read Infeasible text are stated s =
-    record { files = files; tree = tree; is_solve = record { workers = workers; words_are = are }; read = read; stated = stated; solved = s }
+    inl (record { files = files; tree = tree; is_solve = record { workers = workers; words_are = are }; read = read; stated = stated; solved = s })
 solved_reply a old new between words files tree workers read (Accepted cost) text are stated s = absurd s.solves
 solved_reply a old new between words files tree workers read AcceptedNone text are stated s = absurd s.solves
 solved_reply a old new between words files tree workers read (Rejected rejection) text are stated s = absurd s.solves

@@ -1,5 +1,5 @@
 -- What a finished search says, and the answer that it gives.
-use Rattle.std.proofs.Common.{ℕ, ◌≡◌, List, Option, None, Some, refl, sym, ◌∙◌, ap, subst, inl, inr}
+use Rattle.std.proofs.Common.{ℕ, ◌≡◌, Option, None, Some, refl, sym, ◌∙◌, ap, subst, inl, inr}
 use Rattle.std.specs.Prelude.{Result, Ok, Err, IfOk, IfSome, MatchOption}
 use Rattle.std.specs.Option.{option_map}
 use Rattle.tqd_base.specs.declared.memory.Memory.{Memory as NoMemory}

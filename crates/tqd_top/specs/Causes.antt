@@ -1,21 +1,20 @@
 -- Why the answers come that do not speak of a purchase, and the status of each answer.
-use Rattle.std.specs.Prelude.{ℕ, ◌≡◌, ◌⊎◌, Bool, List, Option, Some, IsSome, Ok, Err}
+use Rattle.std.specs.Prelude.{ℕ, ◌≡◌, ◌⊎◌, Bool, List, Some, IsSome, Ok, Err}
 use Rattle.tqd_base.specs.World.{World, State, Name, Bytes}
 use Rattle.tree_checker.specs.declared.rejection.Verdict.{Verdict}
 use Rattle.plan_report.specs.declared.file.InputFile.{InputFile}
 use Rattle.plan_report.specs.declared.file.InputFile.TheVariants.{Tree as TreeFile}
 use Rattle.plan_report.specs.declared.fault.FileFault.{FileFault}
 use Rattle.plan_report.specs.declared.fault.FileFault.TheVariants.{Size}
-use Rattle.plan_report.specs.NeedsText.{needs_text}
 use Rattle.plan_report.specs.FaultText.{unread_text}
 use Rattle.tqd_top.specs.declared.answer.Answer.{Answer}
 use Rattle.tqd_top.specs.declared.answer.Answer.TheVariants.{Solved, Infeasible, Accepted, AcceptedNone, Rejected, Listed, Words, BadInput, ReadFault, WriteFault, Memory}
-use Rattle.tqd_top.specs.declared.reading.NeedsRead.{NeedsRead}
 use Rattle.tqd_top.specs.declared.reading.JobRead.{JobRead}
-use Rattle.tqd_top.specs.Words.{Asked, FilesNamed, IsCheck, IsInput, IsMake, IsNeeds, ToCheck, ToMake, ToNeed, ToSolve, command_of}
+use Rattle.command_words.specs.Words.{Asked, FilesNamed, IsCheck, IsInput, ToBreakEven, ToCheck, ToCompare, ToMake, ToNeed, ToSolve, ToTabulate, command_of}
 use Rattle.tqd_top.specs.JobOf.{IsJobOutcome, IsNeedsOutcome, FaultLine, plainly}
+use Rattle.tqd_top.specs.Scenarios.{IsScenariosOutcome}
 use Rattle.tqd_top.specs.Shows.{IsLongTree, Shows, VerdictAnswer}
-use Rattle.tqd_top.specs.MakeAnswer.{SumsUp}
+use Rattle.tqd_top.specs.BreakEven.{IsCutAnswer}
 use Rattle.tqd_top.specs.Unread.{IsUnreadBy}
 
 -- the status that the program ends with
@@ -31,23 +30,6 @@ status_of (BadInput fault) = 3
 status_of (ReadFault file) = 5
 status_of (WriteFault target) = 6
 status_of Memory = 7
-
--- the words are a `needs`, and its files state these needs
-pub record IsListed (absent_is_empty : Bool) (old : World) (words : List Name) (text : Bytes) : Type 0 where
-  pub orders : Name
-  pub bill : Option Name
-  pub is_needs : IsNeeds words orders bill
-  pub read : NeedsRead
-  pub stated : IsNeedsOutcome absent_is_empty old orders bill (Ok read)
-  pub text_is : text ≡ needs_text read.bill.names read.needs.goods read.needs.units
-
--- the words are a `make`, and the text sums up its job
-pub record IsMade (words : List Name) (text : Bytes) : Type 0 where
-  pub seed : ℕ
-  pub goods : ℕ
-  pub suppliers : ℕ
-  pub is_make : IsMake words seed goods suppliers
-  pub sums_up : SumsUp seed goods suppliers text
 
 -- the words are a `check`, its files state a job, and this is what the text of the tree shows of it
 pub record IsChecked (absent_is_empty : Bool) (old : World) (words : List Name) (answer : Answer)
@@ -76,6 +58,11 @@ IsFaultOf absent_is_empty w (ToCheck files tree) told =
     IsJobOutcome absent_is_empty w files (Err told) ⊎ IsTreeFault absent_is_empty w files tree told
 IsFaultOf absent_is_empty w (ToNeed orders bill) told = IsNeedsOutcome absent_is_empty w orders bill (Err told)
 IsFaultOf absent_is_empty w (ToMake seed goods suppliers) told = ⊥
+IsFaultOf absent_is_empty w (ToCompare files terms workers) told =
+    IsScenariosOutcome absent_is_empty w files terms (Err told)
+IsFaultOf absent_is_empty w (ToTabulate files workers) told = IsJobOutcome absent_is_empty w files (Err told)
+IsFaultOf absent_is_empty w (ToBreakEven files supplier) told = IsJobOutcome absent_is_empty w files (Err told)
+    ⊎ IsCutAnswer absent_is_empty w files supplier (BadInput told.fault) told.text
 
 pub record IsBadInput (absent_is_empty : Bool) (old : World) (words : List Name) (fault : FileFault)
     (text : Bytes) : Type 0 where

@@ -1,12 +1,12 @@
 -- The answers where no count of faults rises.
-use Rattle.std.specs.Prelude.{◌≡◌, Bool, Ok, Err}
+use Rattle.std.specs.Prelude.{◌≡◌, Bool, List, Ok, Err}
 use Rattle.tqd_base.specs.World.{World, State, Name, Bytes, Rose}
 use Rattle.tqd_instance.specs.declared.job.Job.{Job}
 use Rattle.tree_checker.specs.declared.rejection.Verdict.TheVariants.{Optimal, NoPurchase, Rejected as ShowsNothing}
 use Rattle.tree_checker.specs.Verdict.{verdict}
 use Rattle.tree_checker.specs.CheckFrom.{IsTooLong}
 use Rattle.plan_report.specs.declared.file.InputFile.TheVariants.{Tree as TreeFile}
-use Rattle.plan_report.specs.declared.fault.FileFault.TheVariants.{Size}
+use Rattle.plan_report.specs.declared.fault.FileFault.TheVariants.{Size, NoSupplier}
 use Rattle.tqd_instance.specs.Plan.{units}
 use Rattle.tqd_instance.specs.Least.{Least, HasNoPurchase}
 use Rattle.tqd_top.specs.declared.answer.Target.TheVariants.{Out}
@@ -16,6 +16,8 @@ use Rattle.tqd_top.specs.declared.reading.NeedsRead.{NeedsRead}
 use Rattle.tqd_top.specs.declared.reading.JobRead.{JobRead}
 use Rattle.tqd_top.specs.Reads.{ReadsAs}
 use Rattle.tqd_top.specs.JobOf.{Outcome, FaultLine}
+use Rattle.order_gen.specs.GenParts.{HasPurchase}
+use Rattle.tqd_top.specs.BreakEven.{HasNoSupplier, HasSupplier}
 
 -- no count of faults rose
 pub record IsFaultless (old new : State) : Type 0 where
@@ -66,6 +68,30 @@ abbrev pub IsAnswerToMake : Answer → Type 0
 IsAnswerToMake Listed = Unit {0}
 IsAnswerToMake Memory = Unit {0}
 IsAnswerToMake _ = ⊥
+
+-- `scenarios`, where the files state jobs or a fault
+abbrev pub IsAnswerToCompare : Outcome (List Job) → Answer → Type 0
+IsAnswerToCompare (Err told) answer = IsAnswerToFault told answer
+IsAnswerToCompare (Ok jobs) Listed = Unit {0}
+IsAnswerToCompare (Ok jobs) Memory = Unit {0}
+IsAnswerToCompare (Ok jobs) _ = ⊥
+
+-- `winners`, where the files state a job or a fault
+abbrev pub IsAnswerToTable : Outcome JobRead → Answer → Type 0
+IsAnswerToTable (Err told) answer = IsAnswerToFault told answer
+IsAnswerToTable (Ok read) Listed = Unit {0}
+IsAnswerToTable (Ok read) Memory = Unit {0}
+IsAnswerToTable (Ok read) _ = ⊥
+
+-- `break-even`, where the files state a job or a fault: a cut where a purchase is feasible, and that none is where none
+-- is; or that no supplier has this name; or the fault
+abbrev pub IsAnswerToCut : Name → Outcome JobRead → Answer → Type 0
+IsAnswerToCut supplier (Err told) answer = IsAnswerToFault told answer
+IsAnswerToCut supplier (Ok read) Listed = HasPurchase read.job × HasSupplier read supplier
+IsAnswerToCut supplier (Ok read) Infeasible = HasNoPurchase read.job × HasSupplier read supplier
+IsAnswerToCut supplier (Ok read) (BadInput fault) = HasNoSupplier read supplier × (fault ≡ NoSupplier)
+IsAnswerToCut supplier (Ok read) Memory = Unit {0}
+IsAnswerToCut supplier (Ok read) _ = ⊥
 
 -- words of no form, also where a count rises: the fault or the want of memory comes before the text is printed
 abbrev pub IsAnswerToNoForm : Answer → Type 0

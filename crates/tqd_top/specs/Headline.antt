@@ -2,6 +2,7 @@
 -- answers come where no device fails, and what holds of every answer.
 use Rattle.std.specs.Prelude.{ℕ, ◌≡◌, ◌⊎◌, Bool, List, Option, None, Some, IsSome, IfSome, Ok}
 use Rattle.tqd_base.specs.World.{World, State, Name, Bytes, IsIdle, NeverFall, bytes_at, print}
+use Rattle.tqd_instance.specs.declared.job.Job.{Job}
 use Rattle.tqd_instance.specs.declared.plan.Plan.{Plan}
 use Rattle.tqd_instance.specs.Plan.{units, IsSizedFor}
 use Rattle.tqd_instance.specs.Cost.{cost}
@@ -21,13 +22,16 @@ use Rattle.tqd_top.specs.declared.answer.Target.{Target}
 use Rattle.tqd_top.specs.declared.answer.Ended.{Ended}
 use Rattle.tqd_top.specs.declared.reading.NeedsRead.{NeedsRead}
 use Rattle.tqd_top.specs.declared.reading.JobRead.{JobRead}
-use Rattle.tqd_top.specs.Forms.{usage_text}
-use Rattle.tqd_top.specs.Words.{FilesNamed, IsCheck, IsMake, IsNeeds, IsNoForm, IsSolve}
+use Rattle.command_words.specs.Forms.{usage_text}
+use Rattle.command_words.specs.Words.{FilesNamed, IsBreakEven, IsCheck, IsMake, IsNeeds, IsNoForm, IsScenarios, IsSolve, IsWinners}
 use Rattle.tqd_top.specs.Reads.{ReadsAs}
 use Rattle.tqd_top.specs.JobOf.{IsJobOutcome, JobOf, NeedsOf, Outcome}
-use Rattle.tqd_top.specs.Causes.{FailsOnlyInputs, IsBadInput, IsChecked, IsListed, IsMade, IsReadFault, status_of}
+use Rattle.tqd_top.specs.Scenarios.{ScenariosOf}
+use Rattle.tqd_top.specs.Causes.{FailsOnlyInputs, IsBadInput, IsChecked, IsReadFault, status_of}
+use Rattle.tqd_top.specs.BreakEven.{IsCutInfeasible}
+use Rattle.tqd_top.specs.Listed.{IsListed}
 use Rattle.tqd_top.specs.Output.{IsWant, IsWriteFault, Leaves, Says}
-use Rattle.tqd_top.specs.Complete.{IsAnswerToCheck, IsAnswerToMake, IsAnswerToNeeds, IsAnswerToNoForm, IsAnswerToSolve, IsFaultless}
+use Rattle.tqd_top.specs.Complete.{IsAnswerToCheck, IsAnswerToCompare, IsAnswerToCut, IsAnswerToMake, IsAnswerToNeeds, IsAnswerToNoForm, IsAnswerToSolve, IsAnswerToTable, IsFaultless}
 
 -- `solve`, whose files state a job, found a plan of it: no feasible purchase costs less
 pub record SolvedClause (absent_is_empty : Bool) (old new : World) (words : List Name) (plan : Plan)
@@ -45,7 +49,7 @@ pub record SolvedClause (absent_is_empty : Bool) (old new : World) (words : List
       (Optimal amount)
 
 -- `solve`, whose files state a job, found that no purchase is feasible
-pub record InfeasibleClause (absent_is_empty : Bool) (old new : World) (words : List Name) : Type 0 where
+pub record IsSolvedInfeasible (absent_is_empty : Bool) (old new : World) (words : List Name) : Type 0 where
   pub files : FilesNamed
   pub tree : Option Name
   pub is_solve : IsSolve words files tree
@@ -53,6 +57,11 @@ pub record InfeasibleClause (absent_is_empty : Bool) (old new : World) (words : 
   pub stated : IsJobOutcome absent_is_empty old files (Ok read)
   pub none : HasNoPurchase read.job
   pub leaves : Leaves old new tree read.job None infeasible_text NoPurchase
+
+-- no purchase is feasible: of the job of a `solve`, or of a `break-even`, which prints that and saves nothing
+abbrev pub InfeasibleClause : Bool → World → World → List Name → Type 0
+InfeasibleClause absent_is_empty old new words = IsSolvedInfeasible absent_is_empty old new words
+    ⊎ Says old new (IsCutInfeasible absent_is_empty old words)
 
 -- `check`, whose files state a job, accepted a cost: whoever wrote the text of TREE, it is that of a purchase of this
 -- cost than which no feasible purchase costs less. The file, where told, is not too long.
@@ -89,7 +98,7 @@ pub record IsProgramRun (absent_is_empty : Bool) (old new : State) (words : List
   -- What each answer means. A plan is a least purchase, and its tree shows that.
   pub solved : (plan : Plan) (amount : ℕ) → ended.answer ≡ Solved plan amount
       → SolvedClause absent_is_empty old.world new.world words plan amount
-  -- Infeasible comes where there is no feasible purchase, and its tree shows that.
+  -- Infeasible comes where there is no feasible purchase, and the tree of a `solve` shows that.
   pub infeasible : ended.answer ≡ Infeasible → InfeasibleClause absent_is_empty old.world new.world words
   -- A cost that `check` accepts is that of a least purchase, which the tree has.
   pub accepted : (amount : ℕ) → ended.answer ≡ Accepted amount
@@ -99,9 +108,10 @@ pub record IsProgramRun (absent_is_empty : Bool) (old new : State) (words : List
   -- What `check` rejects, the checker rejects so.
   pub rejected : (rejection : Rejection) → ended.answer ≡ Rejected rejection
       → Says old.world new.world (IsChecked absent_is_empty old.world words (Rejected rejection))
-  -- The needs that `needs` lists are those of its files, and the summary of `make` is that of the job that it makes.
-  pub listed : ended.answer ≡ Listed
-      → Says old.world new.world (λ text. IsListed absent_is_empty old.world words text ⊎ IsMade words text)
+  -- What is listed is what the command asks for: the needs that the files of `needs` state, the summary of the job that
+  -- `make` makes, the least costs of the jobs of `scenarios` and of the job of `winners`, the least cut of the supplier
+  -- of `break-even`.
+  pub listed : ended.answer ≡ Listed → Says old.world new.world (IsListed absent_is_empty old.world words)
   -- The usage is printed where the words are of no form.
   pub usage : ended.answer ≡ Words → Says old.world new.world (λ text. IsNoForm words × (text ≡ usage_text))
   -- A fault is the first one of the files.
@@ -133,6 +143,20 @@ pub record IsProgramRun (absent_is_empty : Bool) (old new : State) (words : List
   -- And `make` makes its summary, or wants memory.
   pub make_complete : (seed goods suppliers : ℕ) → IsMake words seed goods suppliers → IsFaultless old new
       → IsAnswerToMake ended.answer
+  -- And `scenarios` lists the least costs of the jobs, or says what the fault is, or wants memory.
+  pub scenarios_complete : (files : FilesNamed) (terms : List (Option Name)) (outcome : Outcome (List Job))
+      → IsScenarios words files terms → IsSome old.world.files
+      → ScenariosOf absent_is_empty old.world files terms outcome → IsFaultless old new
+      → IsAnswerToCompare outcome ended.answer
+  -- And `winners` makes its table of the job, or says what the fault is, or wants memory.
+  pub winners_complete : (files : FilesNamed) (outcome : Outcome JobRead) → IsWinners words files
+      → IsSome old.world.files
+      → JobOf absent_is_empty old.world files outcome → IsFaultless old new → IsAnswerToTable outcome ended.answer
+  -- And `break-even` answers for the job and the supplier, or says what the fault is, or wants memory.
+  pub break_even_complete : (files : FilesNamed) (supplier : Name) (outcome : Outcome JobRead)
+      → IsBreakEven words files supplier → IsSome old.world.files
+      → JobOf absent_is_empty old.world files outcome → IsFaultless old new
+      → IsAnswerToCut supplier outcome ended.answer
   -- Words of no form bring Words, or the fault or the want of memory that comes before its text is printed.
   pub no_form : IsNoForm words → IsAnswerToNoForm ended.answer
   -- What holds of every answer. The status is that of the answer.

@@ -6,4 +6,5 @@ pub mod Solution
 pub mod Saving
 pub mod Solving
 pub mod Checking
+pub mod Cuts
 pub mod Runs

@@ -26,7 +26,7 @@ use Rattle.tqd_top.specs.declared.reading.NeedsRead.{NeedsRead}
 use Rattle.tqd_top.specs.declared.reading.OffersRead.{OffersRead}
 use Rattle.tqd_top.specs.declared.reading.JobRead.{JobRead}
 use Rattle.tqd_top.specs.Reads.{ReadsAs}
-use Rattle.tqd_top.specs.Words.{FilesNamed}
+use Rattle.command_words.specs.Words.{FilesNamed}
 
 -- a fault, and the line that tells it
 pub record FaultLine : Type 0 where

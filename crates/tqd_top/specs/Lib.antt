@@ -1,13 +1,13 @@
-pub mod Text
-pub mod Forms
-pub mod Words
 pub mod Reads
 pub mod JobOf
+pub mod Scenarios
 pub mod Unread
 pub mod Certificate
 pub mod SavedTree
 pub mod Solves
 pub mod MakeAnswer
+pub mod BreakEven
+pub mod Listed
 pub mod Shows
 pub mod Causes
 pub mod Output

@@ -11,13 +11,15 @@ use Rattle.tqd_top.specs.declared.answer.Target.TheVariants.{Tree, Out}
 use Rattle.tqd_top.specs.declared.answer.Answer.{Answer}
 use Rattle.tqd_top.specs.declared.answer.Answer.TheVariants.{Solved, Infeasible, Accepted, AcceptedNone, Rejected, Listed, Words, BadInput, ReadFault, WriteFault, Memory}
 use Rattle.tqd_top.specs.declared.reading.JobRead.{JobRead}
-use Rattle.tqd_top.specs.Forms.{usage_text}
-use Rattle.tqd_top.specs.Words.{FilesNamed, IsNoForm, IsSolve}
+use Rattle.command_words.specs.Forms.{usage_text}
+use Rattle.command_words.specs.Words.{FilesNamed, IsNoForm, IsSolve}
 use Rattle.tqd_top.specs.JobOf.{IsJobOutcome}
 use Rattle.tqd_top.specs.Certificate.{IsCertificate}
 use Rattle.tqd_top.specs.SavedTree.{saved}
 use Rattle.tqd_top.specs.Solves.{IsCut, IsSolved}
-use Rattle.tqd_top.specs.Causes.{IsBadInput, IsChecked, IsListed, IsMade, IsReadFault}
+use Rattle.tqd_top.specs.BreakEven.{IsCutInfeasible}
+use Rattle.tqd_top.specs.Listed.{IsListed}
+use Rattle.tqd_top.specs.Causes.{IsBadInput, IsChecked, IsReadFault}
 
 -- the output, where told, grew by exactly this text
 abbrev pub Prints : World → World → Bytes → Type 0
@@ -71,6 +73,7 @@ IsReply absent_is_empty old new between words (Solved plan amount) text =
     IsJobSolved absent_is_empty old.world between words (Solved plan amount) text
 IsReply absent_is_empty old new between words Infeasible text =
     IsJobSolved absent_is_empty old.world between words Infeasible text
+    ⊎ ((between ≡ old.world) × IsCutInfeasible absent_is_empty old.world words text)
 IsReply absent_is_empty old new between words (Accepted cost) text =
     (between ≡ old.world) × IsChecked absent_is_empty old.world words (Accepted cost) text
 IsReply absent_is_empty old new between words AcceptedNone text =
@@ -78,7 +81,7 @@ IsReply absent_is_empty old new between words AcceptedNone text =
 IsReply absent_is_empty old new between words (Rejected rejection) text =
     (between ≡ old.world) × IsChecked absent_is_empty old.world words (Rejected rejection) text
 IsReply absent_is_empty old new between words Listed text =
-    (between ≡ old.world) × (IsListed absent_is_empty old.world words text ⊎ IsMade words text)
+    (between ≡ old.world) × IsListed absent_is_empty old.world words text
 IsReply absent_is_empty old new between words Words text = (between ≡ old.world) × IsNoForm words × (text ≡ usage_text)
 IsReply absent_is_empty old new between words (BadInput fault) text =
     (between ≡ old.world) × IsBadInput absent_is_empty old.world words fault text

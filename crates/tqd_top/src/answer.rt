@@ -23,7 +23,8 @@ pub enum Answer {
     AcceptedNone,
     /// The tree certifies nothing, and this is the first cause.
     Rejected(Rejection),
-    /// The needs of the goods of orders and a bill were printed, or the summary of a made job.
+    /// What the command lists was printed: needs, the summary of a made job, a winner table, or the least cut of a
+    /// supplier's prices that pays.
     Listed,
     /// The words are of none of the forms.
     Words,

@@ -4,13 +4,13 @@ ghost use Rattle.tqd_base.specs.World.{Name, Reads};
 ghost use Rattle.tqd_top.specs.Inner.Checking.{CheckFileGives, CheckSlotGives, OpenTreeGives, CheckStopGives};
 ghost use Rattle.tqd_top.specs.Shows.{VerdictAnswer};
 ghost use Rattle.tqd_top.specs.Inner.Runs.{PlainReplies, VerdictGives};
-ghost use Rattle.tqd_top.specs.Words.{ToCheck, command_of, files_named};
+ghost use Rattle.command_words.specs.Words.{ToCheck, command_of, files_named};
 
 use crate::answer::{Answer, Reply};
 use crate::job::read_job;
 use crate::no_value::{NoValue, bad};
 use crate::text::reply_without_value;
-use crate::words::JobFiles;
+use command_words::JobFiles;
 use plan_report::{FileFault, InputFile, accepted_text, rejection_text};
 use std::alloc::Global;
 use tqd_base::{Desk, DeskStop, Memory};

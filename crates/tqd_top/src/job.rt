@@ -6,15 +6,16 @@ ghost use Rattle.plan_report.specs.declared.file.InputFile.TheVariants.{Terms as
 ghost use Rattle.tqd_top.specs.JobOf.{JobGives, JobOf, OffersOf, TermsGive, TermsOf};
 ghost use Rattle.tqd_top.specs.Inner.ReadBook.{IsReadBook};
 ghost use Rattle.tqd_top.specs.Inner.Steps.{Answers, ReadGives};
-ghost use Rattle.tqd_top.specs.Unread.{FailsAtGiven, IsUnread};
-ghost use Rattle.tqd_top.specs.Words.{files_named};
+ghost use Rattle.tqd_top.specs.Unread.{FailsAtGiven, IsUnread, IsUnreadOffers};
+ghost use Rattle.command_words.specs.Words.{files_named};
 
 use crate::input::read_needs;
+use crate::kept::OffersKept;
 use crate::no_value::{NoValue, bad_offers};
 use crate::reading::{JobRead, OffersRead};
 use crate::source::read_file;
 use crate::sources::{OffersFile, TermsFile};
-use crate::words::JobFiles;
+use command_words::JobFiles;
 use plan_report::FileFault;
 use std::alloc::Global;
 use tqd_base::{Desk, Stop};
@@ -40,13 +41,13 @@ fn read_given_terms<D: Desk>(
 }
 
 /// The offers that files state, after orders and bill.
-fn read_offer_files<D: Desk>(
+pub(crate) fn read_offer_files<D: Desk>(
     alloc: Global,
     desk: &mut D,
     files: &JobFiles<'_>,
-) -> Result<OffersRead, NoValue>
+) -> Result<OffersKept, NoValue>
     ensures { ReadGives (OffersOf D.absent_is_empty (D.state desk.old).world (files_named files.now))
-        (IsUnread D.absent_is_empty (D.state desk.old) (D.state desk.new) (files_named files.now))
+        (IsUnreadOffers D.absent_is_empty (D.state desk.old) (D.state desk.new) (files_named files.now))
         (D.state desk.old) (D.state desk.new) result }
 {
     let read = read_needs(alloc, desk, files.orders, files.bill)?;
@@ -63,8 +64,8 @@ fn read_term_files<D: Desk>(
         (IsUnread D.absent_is_empty (D.state desk.old) (D.state desk.new) (files_named files.now))
         (D.state desk.old) (D.state desk.new) result }
 {
-    let read = read_offer_files(alloc, desk, files)?;
-    read_given_terms(alloc, desk, read, files.terms)
+    let kept = read_offer_files(alloc, desk, files)?;
+    read_given_terms(alloc, desk, kept.into_offers(), files.terms)
 }
 
 fn job_of(alloc: Global, read: OffersRead) -> Result<JobRead, NoValue>

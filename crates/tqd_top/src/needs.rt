@@ -3,7 +3,7 @@ ghost use Rattle.std.specs.Prelude.{◌≡◌, ◌<◌, All, IfOk, List, Some, l
 ghost use Rattle.std.specs.Option.{option_copied};
 ghost use Rattle.tqd_base.specs.World.{Name};
 ghost use Rattle.plan_report.specs.NeedsText.{needs_text};
-ghost use Rattle.tqd_top.specs.Words.{ToNeed, command_of};
+ghost use Rattle.command_words.specs.Words.{ToNeed, command_of};
 ghost use Rattle.tqd_top.specs.Inner.Runs.{PlainReplies};
 ghost use Rattle.tqd_top.specs.declared.answer.Answer.TheVariants.{Listed};
 

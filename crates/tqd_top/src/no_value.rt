@@ -8,6 +8,7 @@ use crate::reading::OffersRead;
 use bom_reader::NameList;
 use plan_report::{FileFault, InputFile, fault_text};
 use std::alloc::Global;
+use tqd_base::Memory;
 
 /// Why files gave no value: their first fault with the line that tells it, a file that could not be read, or the want
 /// of memory.
@@ -16,6 +17,17 @@ pub enum NoValue {
     Bad(FileFault, Vec<u8>),
     Unread(InputFile),
     Memory,
+}
+
+impl From<Memory> for NoValue {
+    ghost use Rattle.std.specs.Prelude.{◌≡◌};
+    ghost use Rattle.tqd_top.specs.declared.no_value.NoValue.TheVariants.{Memory};
+
+    ghost from_gives = { λ _ e. e ≡ Memory };
+
+    fn from(_error: Memory) -> NoValue {
+        NoValue::Memory
+    }
 }
 
 // A fault, told by these names of parts, these goods and these suppliers.

@@ -6,12 +6,14 @@ ghost use Rattle.tqd_top.specs.Inner.Runs.{EndGives, Replies, PrintGives};
 
 use crate::answer::{Answer, Ended, NoReply, Reply, Target};
 use crate::check::check;
+use crate::compare::{compare, compare_by};
+use crate::cut::cut;
 use crate::make::make;
 use crate::needs::needs;
 use crate::solve::{solve, solve_by};
 use crate::text::or_no_reply;
-use crate::usage::usage_text;
-use crate::words::{Command, read_words};
+use crate::winners::{winners, winners_by};
+use command_words::{Command, read_words, usage_text};
 use search_run::Gate;
 use std::alloc::Global;
 use std::sync::Wait;
@@ -40,6 +42,11 @@ fn reply_to<D: Desk>(alloc: Global, words: &[String], desk: &mut D) -> Result<Re
             goods,
             suppliers,
         } => or_no_reply(make(alloc, seed, goods, suppliers)),
+        Command::Scenarios { files, terms, .. } => {
+            or_no_reply(compare(alloc, desk, &files, terms))
+        }
+        Command::Winners { files, .. } => or_no_reply(winners(alloc, desk, &files)),
+        Command::BreakEven { files, supplier } => or_no_reply(cut(alloc, desk, &files, supplier)),
     }
 }
 
@@ -105,9 +112,12 @@ fn end<D: Desk>(desk: &mut D, reply: Result<Reply, NoReply>) -> Ended
 /// `solve ORDERS BILL OFFERS TERMS TREE` finds a least purchase of the job that the files state, writes the tree that
 /// certifies it, and prints it. `check ORDERS BILL OFFERS TERMS TREE` says what the text of a tree shows of the job.
 /// `needs ORDERS BILL` prints what is needed of each part that has to be bought. `make SEED GOODS SUPPLIERS` makes a
-/// job, solves it and sums it up. Words that are of no form print the usage. Every answer but WriteFault and Memory
-/// prints its text as the last act; if that fails, the answer is WriteFault(Out). No file changes but the TREE of
-/// `solve`. The desk is handed in without an open slot, and has none at the end.
+/// job, solves it and sums it up. `scenarios ORDERS BILL OFFERS TERMS..` prints what a least purchase costs with each
+/// of 1 to 16 files of terms, `winners ORDERS BILL OFFERS TERMS` what it costs with each greatest number of winners, and
+/// `break-even ORDERS BILL OFFERS TERMS SUPPLIER` the least cut of a supplier's prices that lowers the least cost. Words
+/// that are of no form print the usage. Every answer but WriteFault and Memory prints its text as the last act; if that
+/// fails, the answer is WriteFault(Out). No file changes but the TREE of `solve`. The desk is handed in without an open
+/// slot, and has none at the end.
 pub fn run_plain<D: Desk>(alloc: Global, words: &[String], desk: &mut D) -> Ended
     requires { IsIdle (D.state desk.old).world }
     ensures { IsProgramRun D.absent_is_empty (D.state desk.old) (D.state desk.new) (map string_bytes words.now) result }
@@ -116,9 +126,9 @@ pub fn run_plain<D: Desk>(alloc: Global, words: &[String], desk: &mut D) -> Ende
     end(desk, reply)
 }
 
-/// Runs the command that the words give, as [`run_plain`] does, but that the workers of `solve --workers N`, where they
-/// are two or more, are threads, each of which passes the gate before each box. Only then may it wait; what it promises
-/// then holds if it returns.
+/// Runs the command that the words give, as [`run_plain`] does, but that the workers of `solve --workers N`, `scenarios ..
+/// --workers N` and `winners .. --workers N`, where they are two or more, are threads. Those of `solve` pass the gate
+/// before each box. Only then may it wait; what it promises then holds if it returns.
 pub fn run<R: Threads + Wait + Sync, D: Desk, G: Gate + Sync>(
     rt: &R,
     alloc: Global,
@@ -140,6 +150,22 @@ pub fn run<R: Threads + Wait + Sync, D: Desk, G: Gate + Sync>(
             let number = workers as u32;
             let solved = solve_by(rt, alloc, desk, &files, tree, number, gate);
             end(desk, solved)
+        }
+        Some(
+            Command::Scenarios {
+                files,
+                terms,
+                workers,
+            },
+        ) if workers >= 2 => {
+            let number = workers as u32;
+            let compared = compare_by(rt, alloc, desk, &files, terms, number);
+            end(desk, or_no_reply(compared))
+        }
+        Some(Command::Winners { files, workers }) if workers >= 2 => {
+            let number = workers as u32;
+            let listed = winners_by(rt, alloc, desk, &files, number);
+            end(desk, or_no_reply(listed))
         }
         _ => run_plain(alloc, words, desk),
     }

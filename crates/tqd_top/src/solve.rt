@@ -6,7 +6,7 @@ ghost use Rattle.tqd_base.specs.World.{IsIdle, Name};
 ghost use Rattle.tqd_top.specs.Inner.Solution.{IsFinished};
 ghost use Rattle.tqd_top.specs.Inner.ReadBook.{IsReadJob};
 ghost use Rattle.tqd_top.specs.Inner.Solving.{SolveGives};
-ghost use Rattle.tqd_top.specs.Words.{ToSolve, command_of, files_named};
+ghost use Rattle.command_words.specs.Words.{ToSolve, command_of, files_named};
 ghost use Rattle.tqd_top.specs.Inner.Runs.{Replies};
 
 use crate::answer::{NoReply, Reply};
@@ -15,7 +15,7 @@ use crate::reading::JobRead;
 use crate::save::save_given;
 use crate::solution::{search, search_by, solution_answer, solution_text};
 use crate::text::{or_no_reply, reply_without_value};
-use crate::words::JobFiles;
+use command_words::JobFiles;
 use search_book::Finished;
 use search_run::Gate;
 use std::alloc::Global;

@@ -1,4 +1,5 @@
 //! One step for each file of a command: its bytes are read, and then tested.
+ghost use Rattle.std.specs.Prelude.{◌≡◌};
 ghost use Rattle.plan_report.specs.declared.file.InputFile.{InputFile};
 ghost use Rattle.tqd_base.specs.World.{Bytes};
 ghost use Rattle.tqd_top.specs.JobOf.{Gives, Outcome, sized};
@@ -16,9 +17,7 @@ pub(crate) trait Source: Drop + Sized {
     type Value;
 
     /// Which file of a command it is.
-    ghost FILE: { InputFile };
-
-    const FILE: InputFile;
+    ghost file_of: { Self → InputFile };
 
     /// What the bytes state: a value, or their first fault.
     ghost stated: { Self → Bytes → Outcome Self.Value };
@@ -26,10 +25,14 @@ pub(crate) trait Source: Drop + Sized {
     /// What has to hold of the files that were read before.
     ghost IsReady: { Self → Type 0 };
 
+    /// Which file of a command it is.
+    fn file(&self) -> InputFile
+        ensures { result ≡ file_of self.now };
+
     /// The value that the bytes state.
-    fn read(self, alloc: Global, bytes: &[u8]) -> Result<Self::Value, NoValue>
+    fn read(self, alloc: Global, bytes: Vec<u8>) -> Result<Self::Value, NoValue>
         requires { IsReady self }
-        ensures { Yields (stated self bytes.now) result };
+        ensures { Yields (stated self bytes.items) result };
 }
 
 // The bytes of a file, at most 16,777,216.
@@ -58,10 +61,11 @@ pub(crate) fn read_file<D: Desk, S: Source>(
     source: S,
 ) -> Result<S::Value, NoValue>
     requires { S.IsReady source }
-    ensures { ReadGives (Gives D.absent_is_empty (D.state desk.old).world name.now (sized S.FILE (S.stated source)))
-        (IsFileUnread (D.state desk.old) (D.state desk.new) S.FILE name.now)
+    ensures { ReadGives
+        (Gives D.absent_is_empty (D.state desk.old).world name.now (sized (S.file_of source) (S.stated source)))
+        (IsFileUnread (D.state desk.old) (D.state desk.new) (S.file_of source) name.now)
         (D.state desk.old) (D.state desk.new) result }
 {
-    let bytes = read_bytes(alloc, desk, S::FILE, name)?;
-    source.read(alloc, &bytes)
+    let bytes = read_bytes(alloc, desk, source.file(), name)?;
+    source.read(alloc, bytes)
 }

@@ -14,7 +14,7 @@ use Rattle.tqd_top.specs.declared.answer.Reply.{Reply}
 use Rattle.tqd_top.specs.declared.no_value.NoValue.{NoValue}
 use Rattle.tqd_top.specs.declared.no_value.NoValue.TheVariants.{Bad, Unread, Memory as WantsMemoryToo}
 use Rattle.tqd_top.specs.declared.reading.JobRead.{JobRead}
-use Rattle.tqd_top.specs.Words.{Asked, FilesNamed, ToCheck}
+use Rattle.command_words.specs.Words.{Asked, FilesNamed, ToCheck}
 use Rattle.tqd_top.specs.Inner.Steps.{IsStill}
 use Rattle.tqd_top.specs.Shows.{Shows}
 use Rattle.tqd_top.specs.Causes.{FailsOnlyInputs, IsFaultOf}

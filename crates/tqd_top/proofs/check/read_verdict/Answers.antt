@@ -1,6 +1,6 @@
 -- The job is read, and then the tree.
 use Rattle.std.proofs.lemmas.Result.{err_from_is_err_and}
-use Rattle.tqd_top.specs.Words.{files_named}
+use Rattle.command_words.specs.Words.{files_named}
 use Rattle.tqd_top.proofs.ReplyLemmas.{check_after, check_stops}
 use Rattle.tqd_top.proofs.check.read_verdict.Goals as goal
 

@@ -1,6 +1,6 @@
 -- All files, and then the job.
 use Rattle.std.proofs.lemmas.Result.{err_from_is_err_and}
-use Rattle.tqd_top.specs.Words.{files_named}
+use Rattle.command_words.specs.Words.{files_named}
 use Rattle.tqd_top.specs.JobOf.{JobGives, TermsOf}
 use Rattle.tqd_top.proofs.Readings.{first_stops, then_answers}
 use Rattle.tqd_top.proofs.ReadFacts.{terms_facts}

@@ -1,7 +1,7 @@
 -- The needs, and then the offers.
 use Rattle.std.proofs.lemmas.Result.{err_from_is_err_and}
 use Rattle.plan_report.specs.declared.file.InputFile.TheVariants.{Offers}
-use Rattle.tqd_top.specs.Words.{files_named}
+use Rattle.command_words.specs.Words.{files_named}
 use Rattle.tqd_top.specs.JobOf.{Gives, NeedsOf, offers_stated, sized}
 use Rattle.tqd_top.proofs.Readings.{first_stops, then_reads}
 use Rattle.tqd_top.proofs.Unreads.{unread_of_bill, unread_offers}

@@ -1,5 +1,5 @@
 -- The text of the certificate, or a prefix of it.
-use Rattle.tqd_top.proofs.Solutions.{finished_nodes, wrote_certificate, wrote_prefix}
+use Rattle.tqd_top.proofs.Solutions.{finished_nodes, wrote_certificate}
 use Rattle.tqd_top.proofs.save.put_tree.Goals as goal
 
 pub write_shared-requires-clause-nodes : goal.write_shared-requires-clause-nodes

@@ -1,6 +1,0 @@
--- It goes down the fields.
-use Rattle.std.proofs.Common.{length}
-use Rattle.tqd_top.proofs.form.+stand_for.Given as goal
-
-abbrev pub decreases-stand_for : goal.decreases-stand_for
-decreases-stand_for l = length l.fields.now

@@ -1,6 +1,0 @@
--- What each form asks for is a command.
-use Rattle.tqd_top.proofs.Ranges.{command_where}
-use Rattle.tqd_top.proofs.laws.words_of_a_form_are_a_command.Goals as goal
-
-pub returns : goal.returns
-returns c = command_where
