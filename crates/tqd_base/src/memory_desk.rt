@@ -22,6 +22,7 @@ impl MemoryDesk {
     ghost use Rattle.tqd_base.specs.Told.{with_file, told_of};
     ghost use Rattle.tqd_base.specs.MemoryState.{memory_state, planned, most_taken, KeepsPlan};
     ghost use Rattle.tqd_base.specs.Calls.{OpenGives};
+    ghost use Rattle.tqd_base.specs.MemoryCalls.{FailedOpen};
 
     /// A desk without files, without output and without an open slot. It takes no memory.
     pub fn new(alloc: Global) -> Result<MemoryDesk, Memory>
@@ -87,6 +88,7 @@ impl MemoryDesk {
     // Counts a fault of opening a name, where memory for the name is to be had.
     fn failed_open(&mut self, name: &str) -> DeskStop
         ensures gives { OpenGives false (memory_state self.old) (memory_state self.new) name.now (Err result) }
+        ensures faults { FailedOpen (memory_state self.old).faults (memory_state self.new).faults result }
         ensures plan { KeepsPlan self.old self.new }
     {
         match self.store.fail_name(name) {
@@ -102,7 +104,7 @@ impl MemoryDesk {
 impl Desk for MemoryDesk {
     ghost use Rattle.std.specs.Prelude.{◌≡◌, ◌<◌, ◌≤◌, ◌&&◌, ◌||◌, false, is_none, if◌then◌else◌, length, IfOk, IsSome};
     ghost use Rattle.tqd_base.specs.MemoryState.{memory_state, planned, most_taken};
-    ghost use Rattle.tqd_base.specs.MemoryCalls.{FailsWhere, PutsHalf, PrintsHalf};
+    ghost use Rattle.tqd_base.specs.MemoryCalls.{FailsWhere, Counts, PutsHalf, PrintsHalf};
     ghost use Rattle.tqd_base.specs.Planned.{counted, is_due};
     ghost use Rattle.tqd_base.specs.Calls.{OpenGives, TakeGives, MakeGives, PutGives, OutGives, CloseGives};
     ghost use Rattle.tqd_base.specs.World.{Reads, Writes, HasNoSlot};
@@ -117,6 +119,7 @@ impl Desk for MemoryDesk {
     fn open(&mut self, _alloc: Global, name: &str) -> Result<u32, DeskStop>
         ensures gives { OpenGives false (memory_state self.old) (memory_state self.new) name.now result }
         ensures fails { FailsWhere (is_due Open (planned self.old) || is_none (file_at self.old.store.files.items name.now)) result }
+        ensures faults { Counts Open (memory_state self.old).faults (memory_state self.new).faults result }
         ensures counted { planned self.new ≡ counted Open (planned self.old) }
         ensures most { most_taken self.new ≡ most_taken self.old }
     {
@@ -134,6 +137,7 @@ impl Desk for MemoryDesk {
         requires room { 0 < length buffer.old }
         ensures gives { TakeGives (memory_state self.old) (memory_state self.new) slot buffer.new result }
         ensures fails { FailsWhere (is_due Take (planned self.old)) result }
+        ensures faults { Counts Take (memory_state self.old).faults (memory_state self.new).faults result }
         ensures bounded { IfOk result (λ count. count ≤ most_taken self.old) }
         ensures counted { planned self.new ≡ counted Take (planned self.old) }
         ensures most { most_taken self.new ≡ most_taken self.old }
@@ -150,6 +154,7 @@ impl Desk for MemoryDesk {
         requires { HasNoSlot (memory_state self.old).world name.now }
         ensures gives { MakeGives (memory_state self.old) (memory_state self.new) name.now result }
         ensures fails { FailsWhere (is_due Make (planned self.old)) result }
+        ensures faults { Counts Make (memory_state self.old).faults (memory_state self.new).faults result }
         ensures counted { planned self.new ≡ counted Make (planned self.old) }
         ensures most { most_taken self.new ≡ most_taken self.old }
     {
@@ -164,6 +169,7 @@ impl Desk for MemoryDesk {
         requires { Writes ((memory_state self.old).world.slots slot) }
         ensures gives { PutGives (memory_state self.old) (memory_state self.new) slot piece.now result }
         ensures fails { FailsWhere (is_due Put (planned self.old)) result }
+        ensures faults { Counts Put (memory_state self.old).faults (memory_state self.new).faults result }
         ensures half { PutsHalf (memory_state self.old) (memory_state self.new) slot piece.now result }
         ensures counted { planned self.new ≡ counted Put (planned self.old) }
         ensures most { most_taken self.new ≡ most_taken self.old }
@@ -180,6 +186,7 @@ impl Desk for MemoryDesk {
     fn out(&mut self, piece: &[u8]) -> Result<(), DeskStop>
         ensures gives { OutGives (memory_state self.old) (memory_state self.new) piece.now result }
         ensures fails { FailsWhere (is_due Out (planned self.old)) result }
+        ensures faults { Counts Out (memory_state self.old).faults (memory_state self.new).faults result }
         ensures half { PrintsHalf (memory_state self.old) (memory_state self.new) piece.now result }
         ensures counted { planned self.new ≡ counted Out (planned self.old) }
         ensures most { most_taken self.new ≡ most_taken self.old }
@@ -197,6 +204,7 @@ impl Desk for MemoryDesk {
         requires { IsSome ((memory_state self.old).world.slots slot) }
         ensures gives { CloseGives (memory_state self.old) (memory_state self.new) slot result }
         ensures fails { FailsWhere (is_writing_slot ((memory_state self.old).world.slots slot) && is_due Close (planned self.old)) result }
+        ensures faults { Counts Close (memory_state self.old).faults (memory_state self.new).faults result }
         ensures counted { planned self.new ≡ (if is_writing_slot ((memory_state self.old).world.slots slot) then counted Close (planned self.old) else planned self.old) }
         ensures most { most_taken self.new ≡ most_taken self.old }
     {

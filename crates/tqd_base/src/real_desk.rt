@@ -123,7 +123,7 @@ impl<'r, R: Files + Print> Desk for RealDesk<'r, R> {
 
     fn close(&mut self, slot: u32) -> Result<(), DeskStop> {
         let ended = &mut self.slots[slot as usize];
-        let fails = ended.fails_to_flush();
+        let fails = ended.fails_to_settle();
         *ended = RealSlot::Closed;
         if fails {
             self.writing = risen(self.writing);

@@ -1,8 +1,9 @@
 ghost use Rattle.std.specs.Prelude.{◌≡◌, ◌≤◌, length, IfOk, true};
 ghost use Rattle.tqd_base.specs.World.{Reads, Writes};
 
+use std::fs::OpenFile;
 use std::io;
-use std::io::{Read, Write};
+use std::io::{ErrorKind, Read, Write};
 
 /// A slot of a real file, or one that has ended.
 #[derive(Drop)]
@@ -12,7 +13,7 @@ pub enum RealSlot<F> {
     Writing(String, F),
 }
 
-impl<F: Read + Write + Drop> RealSlot<F> {
+impl<F: Read + Write + OpenFile + Drop> RealSlot<F> {
     ghost use Rattle.tqd_base.specs.RealState.{real_slot};
 
     // Reads once.
@@ -38,15 +39,27 @@ impl<F: Read + Write + Drop> RealSlot<F> {
         }
     }
 
-    // Flushes a slot that writes, and says whether that failed.
-    pub fn fails_to_flush(&mut self) -> bool
+    // Brings what a slot wrote to the disk, and says whether that failed.
+    pub fn fails_to_settle(&mut self) -> bool
         ensures same { real_slot self.new ≡ real_slot self.old }
         ensures writes { result ≡ true → Writes (real_slot self.old) }
     {
         match self {
-            RealSlot::Writing(_, file) => file.flush().is_err(),
+            RealSlot::Writing(_, file) => fails_to_reach_disk(file),
             _ => false,
         }
+    }
+}
+
+// Brings a file to the disk, and says whether that failed. A device, a pipe or a terminal has no disk to be brought to:
+// that the system answers so is no failure.
+fn fails_to_reach_disk<F: Write + OpenFile>(file: &mut F) -> bool {
+    if file.flush().is_err() {
+        return true;
+    }
+    match file.sync_all() {
+        Ok(()) => false,
+        Err(error) => error.kind() != ErrorKind::InvalidInput,
     }
 }
 

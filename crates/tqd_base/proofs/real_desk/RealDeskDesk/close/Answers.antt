@@ -14,7 +14,7 @@ returns-then-fails g c =
     let lt = real_within c.args.self.now.slots.items c.args.slot c.requires in
     let here : slice_get c.args.self.now.slots.items c.args.slot ≡ Some c.index_mut-ended.result.now = get_here c.args.self.now.slots.items c.args.slot c.index_mut-ended.result.now lt c.index_mut-ended.ensures.value in (
       c.risen-self.ensures.rose,
-      subst Writes (sym (real_here c.args.self.now.slots.items c.args.slot c.index_mut-ended.result.now here)) (c.fails_to_flush-fails.ensures.writes c.if-fails.true),
+      subst Writes (sym (real_here c.args.self.now.slots.items c.args.slot c.index_mut-ended.result.now here)) (c.fails_to_settle-fails.ensures.writes c.if-fails.true),
       record {
         world = real_ends c.args.self.now.slots.items c.args.slot lt;
         kept = refl;
