@@ -1,4 +1,5 @@
 pub mod Fields
+pub mod RowsOf
 pub mod Marks
 pub mod RecordCount
 pub mod ReaderFacts

@@ -1,11 +1,11 @@
 -- The first fault of rows.
-use Rattle.std.proofs.Common.{◌≡◌, ℕ, zero, suc, ◌+◌, ◌<◌, Bool, true, false, cond, eqb, List, [], ◌∷◌, ◌++◌, length, Bor, get_or, take, Option, Some, None, Result, Ok, Err, refl, append_assoc, ap, sym, ◌∙◌, arith}
+use Rattle.std.proofs.Common.{◌≡◌, ℕ, zero, suc, ◌+◌, ◌*◌, ◌/◌, ◌<◌, Bool, true, false, cond, eqb, List, [], ◌∷◌, ◌++◌, length, Bor, get_or, take, Option, Some, None, Result, Ok, Err, refl, append_assoc, ap, sym, ◌∙◌, arith}
 use Rattle.std.proofs.lemmas.Bool.{eq-eqb, eqb-true}
 use Rattle.std.proofs.lemmas.List.{length-append}
 use Rattle.std.proofs.lemmas.List.Elements.{All-nil, All-cons}
-use Rattle.std.specs.Prelude.{All, IfOk}
+use Rattle.std.specs.Prelude.{All, IfOk, IsUtf8}
 use Rattle.std.proofs.lemmas.Option.{none-some}
-use Rattle.std.proofs.lemmas.Str.{is_utf8-from_IsUtf8}
+use Rattle.std.proofs.lemmas.Str.{IsUtf8-from_is_utf8, is_utf8-from_IsUtf8}
 use Rattle.std.specs.Option.{option_or}
 use Rattle.std.specs.Cmp.Lexicographic.{pointwise, pointwise_decides, bytes_decides}
 use Rattle.std.specs.Str.{bytes_eq, is_utf8}
@@ -16,7 +16,9 @@ use Rattle.tqd_base.specs.declared.memory.Stop.{Stop}
 use Rattle.tqd_base.specs.declared.memory.Stop.TheVariants.{Refused, Memory}
 use Rattle.csv_rows.specs.Reading.{HasRead, ReadsOn}
 use Rattle.csv_rows.proofs.ReaderFacts.{reads-front}
-use Rattle.csv_rows.specs.Rows.{Answers, AnswersBy, table_of, unless, row_fault, rows_fault, text_fault}
+use Rattle.csv_rows.specs.Rows.{Answers, AnswersBy, table_of, unless, row_fault, rows_fault, rows_of, text_fault}
+use Rattle.csv_rows.proofs.RowsOf.{rows-more}
+use Rattle.std.proofs.Math.Nat.{suc-mul, zero-mul, mul-div_cancel}
 use Rattle.csv_rows.specs.declared.fault.RowFault.{RowFault}
 use Rattle.csv_rows.specs.declared.fault.RowFault.TheVariants.{Empty, Header, Width, Text}
 
@@ -35,8 +37,19 @@ text_fault-first at n (suc i) (f ∷ fs) inside all other =
     let place : i + (n + 1) ≡ suc i + n = omega arith in
     rw (is_utf8-from_IsUtf8 f all.0, text_fault-first at (n + 1) i fs (omega arith) all.1 other, place) refl
 
+-- bytes that are no text
+not-text : (bytes : List ℕ) → (IsUtf8 bytes → ⊥) → is_utf8 bytes ≡ false
+not-text bytes other = go (is_utf8 bytes) refl where
+  go : (b : Bool) → is_utf8 bytes ≡ b → is_utf8 bytes ≡ false
+  go true is = absurd (other (IsUtf8-from_is_utf8 bytes is))
+  go false is = is
+
 pub row_fault-none : (width at : ℕ) (fields : List (List ℕ)) → length fields ≡ width → AllText fields → row_fault width at fields ≡ None
 row_fault-none width at fields wide all = rw (eq-eqb (length fields) width wide) (text_fault-text at 1 fields all)
+
+-- a row of the right width whose field i is the first that is no text
+pub row_fault-first : (width at i : ℕ) (fields : List (List ℕ)) → length fields ≡ width → i < length fields → AllText (take i fields) → (IsUtf8 (get_or fields i []) → ⊥) → row_fault width at fields ≡ Some (Text at (i + 1))
+row_fault-first width at i fields wide inside all other = rw (eq-eqb (length fields) width wide) (text_fault-first at 1 i fields inside all (not-text (get_or fields i []) other))
 
 row-wide : (width at : ℕ) (fields : List (List ℕ)) (b : Bool) → eqb (length fields) width ≡ b → row_fault width at fields ≡ None → length fields ≡ width
 row-wide width at fields true is none = eqb-true (length fields) width is
@@ -105,6 +118,35 @@ more width at old now new rows all fields texts h next row longer =
       reads = λ text first r. rw whole (next text (first ∷ rows) (h.reads text first r));
       sound = rw (whole, rows_fault-append width 2 rows (fields ∷ []) h.sound, place, fine) refl;
       count = rw (whole, length-append rows (fields ∷ [])) (omega (arith, h.count));
+    }
+
+-- the same, where the rows stand one after the other as one list of fields
+pub record HasFields (width at : ℕ) (old now : Reader (Bor (List ℕ))) (fields : List (List ℕ)) : Type 0 where
+  pub count : ℕ
+  pub number : at ≡ count + 2
+  pub whole : length fields ≡ count * width
+  pub rows : HasRows width at old now (rows_of width count fields)
+
+pub no-fields : (width : ℕ) (reader : Reader (Bor (List ℕ))) → HasFields width 2 reader reader []
+no-fields width reader = record { count = 0; number = refl; whole = sym (zero-mul width); rows = start width reader }
+
+pub fields-end : (width at : ℕ) (old now new : Reader (Bor (List ℕ))) (all fields : List (List ℕ)) (table : List (List (List ℕ))) → 0 < width → HasFields width at old now all → Next now new fields false
+    → table ≡ rows_of width (length all / width) all → Outcome (λ value. value) width old (Ok table)
+fields-end width at old now new all fields table some h next is =
+    let count : length all / width ≡ h.count = ap (λ (n : ℕ). n / width) h.whole ∙ mul-div_cancel h.count some in
+    rw (is, count) (ends width at old now new (rows_of width h.count all) fields h.rows next)
+
+pub fields-more : (width at : ℕ) (old now new : Reader (Bor (List ℕ))) (before after fields : List (List ℕ)) → HasFields width at old now before → Next now new fields true
+    → unless (row_fault width at fields) (before ++ fields) ≡ Ok after → HasFields width (at + 1) old new after
+fields-more width at old now new before after fields h next row =
+    let fine = unless-ok (row_fault width at fields) (before ++ fields) after row in
+    let all : after ≡ before ++ fields = sym (unless-value (row_fault width at fields) (before ++ fields) after row) in
+    let wide = row-wide width at fields (eqb (length fields) width) refl fine in
+    record {
+      count = suc h.count;
+      number = omega (arith, h.number);
+      whole = rw (all, length-append before fields, h.whole, wide) (sym (suc-mul h.count width));
+      rows = more width at old now new (rows_of width h.count before) (rows_of width (suc h.count) after) fields fields h.rows next (rw fine refl) (rw all (rows-more width h.count before fields h.whole wide));
     }
 
 -- there is one that is refused, or memory was wanting

@@ -1,5 +1,6 @@
 -- What the bytes of a file of rows under a header stand for: a table, or the first fault.
-use Rattle.std.specs.Prelude.{◌≡◌, ⊤, ℕ, ◌+◌, List, [], ◌∷◌, length, Option, None, Some, Result, Ok, Err, if◌then◌else◌, ◌==◌}
+use Rattle.std.specs.Prelude.{◌≡◌, ⊤, ℕ, zero, suc, ◌+◌, List, [], ◌∷◌, length, take, drop}
+use Rattle.std.specs.Prelude.{Option, None, Some, Result, Ok, Err, if◌then◌else◌, ◌==◌}
 use Rattle.std.specs.Cmp.Lexicographic.{pointwise}
 use Rattle.std.specs.List.{slice_split}
 use Rattle.std.specs.Option.{option_or}
@@ -41,6 +42,11 @@ unless (Some fault) value = Err fault
 abbrev pub table_of : List (List ℕ) → List (List (List ℕ)) → Result (List (List (List ℕ))) RowFault
 table_of names [] = Err Empty
 table_of names (first ∷ others) = if pointwise bytes_eq first names then unless (rows_fault (length names) 2 others) others else Err Header
+
+-- a list of fields as so many rows of one width
+abbrev pub rows_of : ℕ → ℕ → List (List ℕ) → List (List (List ℕ))
+rows_of width zero fields = []
+rows_of width (suc count) fields = take width fields ∷ rows_of width count (drop width fields)
 
 -- a call answered this outcome, where its value is seen by `view`, or memory was wanting
 abbrev pub AnswersBy : {X V : Type 0} → (X → V) → Result X (Stop RowFault) → Result V RowFault → Type 0

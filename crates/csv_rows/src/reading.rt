@@ -1,8 +1,11 @@
-ghost use Rattle.std.specs.Prelude.{◌≡◌, ◌<◌, ◌↔◌, ℕ, List, [], ◌∷◌, map, length, slice_index_or, All, IfOk, IsTrue};
-ghost use Rattle.std.specs.Str.{is_utf8};
+ghost use Rattle.std.specs.Prelude.{◌≡◌, ◌<◌, ◌↔◌, ◌+◌, ℕ, List, [], ◌∷◌, ◌++◌, map, length};
+ghost use Rattle.std.specs.Prelude.{slice_index_or, All, IfErr, IfOk, IsTrue, IsUtf8};
 ghost use Rattle.csv.specs.Reading.{default_config, records, strip_bom};
-ghost use Rattle.csv.specs.Records.{AllText, field_at, fields_of};
-ghost use Rattle.csv_rows.specs.Rows.{Answers, AnswersBy, names_of, records_of, row_fault, rows_fault, table_of, text_fault, unless};
+ghost use Rattle.csv.specs.Records.{field_at, fields_of};
+ghost use Rattle.tqd_base.specs.declared.memory.Stop.TheVariants.{Refused};
+ghost use Rattle.csv_rows.specs.declared.fault.RowFault.TheVariants.{Text};
+ghost use Rattle.csv_rows.specs.Rows.{Answers, AnswersBy, names_of, records_of, row_fault, rows_fault};
+ghost use Rattle.csv_rows.specs.Rows.{table_of, unless};
 ghost use Rattle.csv_rows.specs.Reading.{HasRead, ReadsOn};
 
 use crate::fault::RowFault;
@@ -99,36 +102,35 @@ fn has_names(row: &ByteRecord, names: &[&str]) -> bool
     true
 }
 
-/// Whether the field at this place is UTF-8.
-fn is_text(row: &ByteRecord, field: usize) -> bool
+/// The text of a field, which is refused where it is not UTF-8.
+fn text_at(row: &ByteRecord, field: usize, at: u64) -> Result<&str, Stop<RowFault>>
     requires { field < length (fields_of row.now) }
-    ensures { result ≡ is_utf8 (slice_index_or (fields_of row.now) field []) }
+    ensures text { IfOk result (λ text.
+        (text.now ≡ slice_index_or (fields_of row.now) field []) × IsUtf8 text.now) }
+    ensures fault { IfErr result (λ stop. (stop ≡ Refused (Text at (field + 1)))
+        × ¬ (IsUtf8 (slice_index_or (fields_of row.now) field []))) }
 {
     match row.get(field) {
-        Some(bytes) => str::from_utf8(bytes).is_ok(),
+        Some(bytes) => match str::from_utf8(bytes) {
+            Ok(text) => Ok(text),
+            Err(_) => Err(Stop::Refused(RowFault::Text {
+                at,
+                field: field as u64 + 1,
+            })),
+        },
         None => unreachable!(),
     }
 }
 
-/// The fault of the first field that is not UTF-8.
-fn first_text_fault(row: &ByteRecord, at: u64) -> RowFault
-    requires { ¬ (AllText (fields_of row.now)) }
-    ensures { text_fault at 1 (fields_of row.now) ≡ Some result }
-{
-    for field in 0..row.len() {
-        if !is_text(row, field) {
-            return RowFault::Text {
-                at,
-                field: field as u64 + 1,
-            };
-        }
-    }
-    unreachable!()
-}
-
-/// A record as a row of texts, where it has no fault.
-fn row_of(row: &ByteRecord, width: usize, at: u64) -> Result<StringRecord, Stop<RowFault>>
-    ensures { AnswersBy fields_of result (unless (row_fault width at (fields_of row.now)) (fields_of row.now)) }
+/// Adds the fields of a record to those of the rows before it, where it has no fault as a row.
+fn add_row(
+    texts: &mut StringRecord,
+    row: &ByteRecord,
+    width: usize,
+    at: u64,
+) -> Result<(), Stop<RowFault>>
+    ensures { AnswersBy (λ _. fields_of texts.new) result
+        (unless (row_fault width at (fields_of row.now)) (fields_of texts.old ++ fields_of row.now)) }
 {
     if row.len() != width {
         return Err(Stop::Refused(RowFault::Width {
@@ -136,10 +138,10 @@ fn row_of(row: &ByteRecord, width: usize, at: u64) -> Result<StringRecord, Stop<
             found: row.len() as u64,
         }));
     }
-    match StringRecord::from_byte_record(row.clone()?) {
-        Ok(texts) => Ok(texts),
-        Err(_) => Err(Stop::Refused(first_text_fault(row, at))),
+    for field in 0..row.len() {
+        texts.push_field(text_at(row, field, at)?)?;
     }
+    Ok(())
 }
 
 /// Reads the rows after the header.
@@ -148,18 +150,19 @@ fn read_rows(
     reader: &mut Reader<&[u8]>,
     width: usize,
 ) -> Result<Table, Stop<RowFault>>
+    requires { 0 < width }
     ensures { (text : List ℕ) (first : List (List ℕ)) → HasRead text (first ∷ []) reader.old →
-        (others : List (List (List ℕ))) × (records default_config text ≡ first ∷ others) × Answers result (unless (rows_fault width 2 others) others) }
+        (others : List (List (List ℕ))) × (records default_config text ≡ first ∷ others)
+        × Answers result (unless (rows_fault width 2 others) others) }
 {
-    let mut rows = Vec::new(alloc);
+    let mut texts = StringRecord::new(alloc);
     let mut row = ByteRecord::new(alloc);
     for at in 2..u64::MAX {
         if !read_next(reader, &mut row)? {
-            return Ok(Table { rows });
+            return Ok(Table::of_fields(texts, width));
         }
-        let texts = row_of(&row, width, at)?;
-        rows.push(texts)?;
+        add_row(&mut texts, &row, width, at)?;
     }
-    // No list in memory is so long.
-    unreachable!()
+    // No memory holds so many rows.
+    Err(Stop::Memory)
 }

@@ -1,4 +1,5 @@
-use Rattle.std.proofs.Common.{◌≡◌, [], ◌∷◌, ap, sym, ◌∙◌}
+use Rattle.std.proofs.Common.{◌≡◌, ℕ, eqb, [], ◌∷◌, length, ap, sym, ◌∙◌, arith}
+use Rattle.std.proofs.lemmas.List.Splits.{length-slice_split}
 use Rattle.std.proofs.lemmas.Bool.{false≢true}
 use Rattle.csv.specs.Reading.{strip_bom}
 use Rattle.csv.specs.Records.{fields_of}
@@ -7,6 +8,12 @@ use Rattle.csv_rows.proofs.Fields.{texts}
 use Rattle.csv_rows.proofs.ReaderFacts.{reads-front}
 use Rattle.csv_rows.proofs.TableFacts.{none-first, other-first, answers-same, answers-wide}
 use Rattle.csv_rows.proofs.reading.rows.Goals as goal
+
+pub read_rows-requires : goal.read_rows-requires
+read_rows-requires c =
+    let names : texts c.deref.result.now ≡ names_of c.args.header.now = ap texts c.deref.ensures.value ∙ c.in_ok-names.ensures in
+    let same : fields_of c.read_next.new.row ≡ names_of c.args.header.now = c.has_names.ensures.0 c.if-not-has_names.false ∙ names in
+    omega (arith, c.len.ensures, ap length same, length-slice_split (λ (byte : ℕ). eqb byte 44) c.args.header.now)
 
 pub returns-then-not-branch-clause-table : goal.returns-then-not-branch-clause-table
 returns-then-not-branch-clause-table c =
