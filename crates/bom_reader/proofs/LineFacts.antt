@@ -4,6 +4,8 @@ use Rattle.std.proofs.lemmas.Bool.{not-false, ltb-false}
 use Rattle.std.proofs.lemmas.List.{length-take-le, map-append, take_all, take_more}
 use Rattle.std.proofs.lemmas.List.Elements.{All-map, All-weaker}
 use Rattle.std.specs.Prelude.{All, is_none}
+use Rattle.std.specs.BTreeMap.{is_at}
+use Rattle.std.specs.BTreeSet.{BTreeSet, IsEmpty, contains}
 use Rattle.std.specs.List.{list_any}
 use Rattle.std.specs.Option.{option_or}
 use Rattle.std.specs.Str.{bytes_eq}
@@ -21,7 +23,7 @@ use Rattle.bom_reader.specs.declared.fault.BillFault.TheVariants.{Name, Quantity
 use Rattle.bom_reader.proofs.FirstFault.{fault_if-none, first_fault-more, first_fault-at, each-sound, unless-ok, unless-value, unless-err}
 use Rattle.bom_reader.proofs.Places.{place_inside}
 use Rattle.bom_reader.proofs.Units.{units-within}
-use Rattle.bom_reader.proofs.PairFacts.{IsKnown, known-own, known-stays, known-all, names-append, lines-stay, pair_of, same_pair, pairs-same}
+use Rattle.bom_reader.proofs.PairFacts.{IsKnown, known-own, known-stays, known-all, names-append, lines-stay, pair_of, pairs-same, pair_cmp, pairs-none, pairs-more, HoldsPairs}
 
 -- a row without a fault, where these names and rows are before it
 pub record IsLineRow (names : List (List ℕ)) (earlier : List Row) (row : Row) : Type 0 where
@@ -75,14 +77,14 @@ lines-sound ordered rows none =
     })
 
 -- what the loop has read before row i of a table
-pub record HasLines (ordered : List (List ℕ)) (table : List Row) (i : ℕ) (names : List (List ℕ)) (lines : List Line) (pairs : List (ℕ × ℕ)) : Type 0 where
+pub record HasLines (ordered : List (List ℕ)) (table : List Row) (i : ℕ) (names : List (List ℕ)) (lines : List Line) (pairs : BTreeSet (ℕ × ℕ)) : Type 0 where
   pub names_are : names ≡ with_names ordered (names_in (take i table))
   pub lines_are : lines ≡ map (line_of names) (take i table)
-  pub pairs_are : pairs ≡ map pair_of lines
+  pub pairs_are : HoldsPairs pairs (map pair_of lines)
   pub sound : first_fault (line_fault_after ordered) [] (take i table) ≡ None
 
-pub no-lines : (ordered : List (List ℕ)) (table : List Row) → HasLines ordered table 0 ordered [] []
-no-lines ordered table = record { names_are = refl; lines_are = refl; pairs_are = refl; sound = refl }
+pub no-lines : (ordered : List (List ℕ)) (table : List Row) (pairs : BTreeSet (ℕ × ℕ)) → IsEmpty pairs → HasLines ordered table 0 ordered [] pairs
+no-lines ordered table pairs none = record { names_are = refl; lines_are = refl; pairs_are = pairs-none pairs none; sound = refl }
 
 -- the row that a call read: its number, its fields, and the names after it
 pub record ReadsRow (table : List Row) (i at : ℕ) (names names' : List (List ℕ)) (first second third : List ℕ) : Type 0 where
@@ -105,9 +107,9 @@ same-row ordered table i at names names' first second third r earlier =
     repeat-last (with_names ordered (names_in (take i table))) (take i table) (length (take i table) + 2) (get_or table i []) ∙ rw (earlier, place, r.first_is, r.second_is, r.third_is) refl
 
 -- whether the pair of the line stands among the pairs so far
-contains-is : (ordered : List (List ℕ)) (table : List Row) (i at : ℕ) (names names' : List (List ℕ)) (lines : List Line) (pairs : List (ℕ × ℕ)) (first second third : List ℕ) → HasLines ordered table i names lines pairs
+contains-is : (ordered : List (List ℕ)) (table : List Row) (i at : ℕ) (names names' : List (List ℕ)) (lines : List Line) (pairs : BTreeSet (ℕ × ℕ)) (first second third : List ℕ) → HasLines ordered table i names lines pairs
     → ReadsRow table i at names names' first second third → AddsNames names names' first second
-    → list_any (same_pair (pair_of (line_of names' (first ∷ second ∷ third ∷ [])))) pairs ≡ list_any (same_ends (get_or table i [])) (take i table)
+    → contains pair_cmp pairs (pair_of (line_of names' (first ∷ second ∷ third ∷ []))) ≡ list_any (same_ends (get_or table i [])) (take i table)
 contains-is ordered table i at names names' lines pairs first second third h r added =
     let row = get_or table i [] in
     let names-after : names' ≡ with_names names (ends_of row) = rw (r.first_is, r.second_is) at added in
@@ -115,9 +117,9 @@ contains-is ordered table i at names names' lines pairs first second third h r a
     let kept : map (line_of names') (take i table) ≡ lines = rw names-after (lines-stay names (ends_of row) (take i table) known) ∙ sym h.lines_are in
     let all : All (IsKnown names') (take i table) = rw names-after (All-weaker (IsKnown names) (IsKnown (with_names names (ends_of row))) (λ (other : Row). known-stays names (ends_of row) other) (take i table) known) in
     let own : IsKnown names' row = rw names-after (known-own names row) in
-    rw (h.pairs_are, ← kept, r.first_is, r.second_is) (pairs-same names' row (take i table) own all)
+    h.pairs_are (pair_of (line_of names' (first ∷ second ∷ third ∷ []))) ∙ rw (← kept, r.first_is, r.second_is) (pairs-same names' row (take i table) own all)
 
-pub lines-stop : {X : Type 0} (view : X → List Line) (ordered : List (List ℕ)) (table : List Row) (i at : ℕ) (names names' : List (List ℕ)) (lines : List Line) (pairs : List (ℕ × ℕ)) (first second third : List ℕ) (stop : Stop BillFault) (value : List Line) → HasLines ordered table i names lines pairs
+pub lines-stop : {X : Type 0} (view : X → List Line) (ordered : List (List ℕ)) (table : List Row) (i at : ℕ) (names names' : List (List ℕ)) (lines : List Line) (pairs : BTreeSet (ℕ × ℕ)) (first second third : List ℕ) (stop : Stop BillFault) (value : List Line) → HasLines ordered table i names lines pairs
     → ReadsRow table i at names names' first second third → AnswersLine names names' at first second third (Err stop) → AnswersBy view (Err stop) (unless (first_fault (line_fault_after ordered) [] table) value)
 lines-stop view ordered table i at names names' lines pairs first second third Memory value h r answer = tt
 lines-stop view ordered table i at names names' lines pairs first second third (Refused fault) value h r answer =
@@ -125,26 +127,27 @@ lines-stop view ordered table i at names names' lines pairs first second third (
     let faulty : line_fault_after ordered (take i table) (get_or table i []) ≡ Some fault = same-row ordered table i at names names' first second third r h.names_are ∙ rw early refl in
     rw (first_fault-at (line_fault_after ordered) table i [] fault r.inside h.sound faulty) refl
 
-pub line-repeats : (ordered : List (List ℕ)) (table : List Row) (i at : ℕ) (names names' : List (List ℕ)) (lines : List Line) (pairs : List (ℕ × ℕ)) (first second third : List ℕ) (line : Line) (value : List Line) → HasLines ordered table i names lines pairs
+pub line-repeats : (ordered : List (List ℕ)) (table : List Row) (i at : ℕ) (names names' : List (List ℕ)) (lines : List Line) (pairs : BTreeSet (ℕ × ℕ)) (first second third : List ℕ) (line : Line) (value : List Line) → HasLines ordered table i names lines pairs
     → ReadsRow table i at names names' first second third → AddsNames names names' first second → AnswersLine names names' at first second third (Ok line)
-    → list_any (same_pair (pair_of line)) pairs ≡ true → unless (first_fault (line_fault_after ordered) [] table) value ≡ Err (Twice at)
+    → contains pair_cmp pairs (pair_of line) ≡ true → unless (first_fault (line_fault_after ordered) [] table) value ≡ Err (Twice at)
 line-repeats ordered table i at names names' lines pairs first second third line value h r added answer repeats =
     let row = first ∷ second ∷ third ∷ [] in
     let early = unless-ok (line_fault names [] at row) (line_of names' row) line answer in
     let is = unless-value (line_fault names [] at row) (line_of names' row) line answer in
-    let stood : list_any (same_ends (get_or table i [])) (take i table) ≡ true = sym (contains-is ordered table i at names names' lines pairs first second third h r added) ∙ subst (λ (l : Line). list_any (same_pair (pair_of l)) pairs ≡ true) (sym is) repeats in
+    let stood : list_any (same_ends (get_or table i [])) (take i table) ≡ true = sym (contains-is ordered table i at names names' lines pairs first second third h r added) ∙ subst (λ (l : Line). contains pair_cmp pairs (pair_of l) ≡ true) (sym is) repeats in
     let faulty : line_fault_after ordered (take i table) (get_or table i []) ≡ Some (Twice at) = same-row ordered table i at names names' first second third r h.names_are ∙ rw (early, stood) refl in
     rw (first_fault-at (line_fault_after ordered) table i [] (Twice at) r.inside h.sound faulty) refl
 
-pub more-lines : (ordered : List (List ℕ)) (table : List Row) (i at : ℕ) (names names' : List (List ℕ)) (lines lines' : List Line) (pairs pairs' : List (ℕ × ℕ)) (first second third : List ℕ) (line : Line) → HasLines ordered table i names lines pairs
+pub more-lines : (ordered : List (List ℕ)) (table : List Row) (i at : ℕ) (names names' : List (List ℕ)) (lines lines' : List Line) (pairs pairs' : BTreeSet (ℕ × ℕ)) (first second third : List ℕ) (line : Line) → HasLines ordered table i names lines pairs
     → ReadsRow table i at names names' first second third → AddsNames names names' first second → AnswersLine names names' at first second third (Ok line)
-    → list_any (same_pair (pair_of line)) pairs ≡ false → lines' ≡ lines ++ line ∷ [] → pairs' ≡ pairs ++ pair_of line ∷ [] → HasLines ordered table (i + 1) names' lines' pairs'
+    → contains pair_cmp pairs (pair_of line) ≡ false → lines' ≡ lines ++ line ∷ [] → ((q : ℕ × ℕ) → contains pair_cmp pairs' q ≡ cond (is_at (pair_cmp (pair_of line)) q) true (contains pair_cmp pairs q))
+    → HasLines ordered table (i + 1) names' lines' pairs'
 more-lines ordered table i at names names' lines lines' pairs pairs' first second third line h r added answer fresh pushed paired =
     let row = first ∷ second ∷ third ∷ [] in
     let end = get_or table i [] in
     let early = unless-ok (line_fault names [] at row) (line_of names' row) line answer in
     let is : line_of names' end ≡ line = rw (← r.first_is, ← r.second_is, ← r.third_is) (unless-value (line_fault names [] at row) (line_of names' row) line answer) in
-    let other : list_any (same_ends end) (take i table) ≡ false = sym (contains-is ordered table i at names names' lines pairs first second third h r added) ∙ subst (λ (l : Line). list_any (same_pair (pair_of l)) pairs ≡ false) (sym (unless-value (line_fault names [] at row) (line_of names' row) line answer)) fresh in
+    let other : list_any (same_ends end) (take i table) ≡ false = sym (contains-is ordered table i at names names' lines pairs first second third h r added) ∙ subst (λ (l : Line). contains pair_cmp pairs (pair_of l) ≡ false) (sym (unless-value (line_fault names [] at row) (line_of names' row) line answer)) fresh in
     let fine : line_fault_after ordered (take i table) end ≡ None = same-row ordered table i at names names' first second third r h.names_are ∙ rw (early, other) refl in
     let names-after : names' ≡ with_names names (ends_of end) = rw (r.first_is, r.second_is) at added in
     let known : All (IsKnown names) (take i table) = rw h.names_are (known-all ordered (take i table)) in
@@ -152,11 +155,11 @@ more-lines ordered table i at names names' lines lines' pairs pairs' first secon
     record {
       names_are = rw (take_more table i [] r.inside) (names-after ∙ (rw h.names_are refl ∙ sym (names-append ordered (take i table) (end ∷ []))));
       lines_are = rw (take_more table i [] r.inside, map-append, kept) (pushed ∙ rw is refl);
-      pairs_are = rw (pushed, map-append, ← h.pairs_are) paired;
+      pairs_are = rw (pushed, map-append) (pairs-more pairs pairs' (map pair_of lines) (pair_of line) h.pairs_are paired);
       sound = first_fault-more (line_fault_after ordered) table i [] r.inside h.sound fine;
     }
 
-pub all-lines : (ordered : List (List ℕ)) (table : List Row) (i : ℕ) (names : List (List ℕ)) (lines : List Line) (pairs : List (ℕ × ℕ)) → HasLines ordered table i names lines pairs → length table ≤ i
+pub all-lines : (ordered : List (List ℕ)) (table : List Row) (i : ℕ) (names : List (List ℕ)) (lines : List Line) (pairs : BTreeSet (ℕ × ℕ)) → HasLines ordered table i names lines pairs → length table ≤ i
     → unless (first_fault (line_fault_after ordered) [] table) (map (line_of names) table) ≡ Ok lines
 all-lines ordered table i names lines pairs h past =
     let whole = take_all i table past in
@@ -164,9 +167,5 @@ all-lines ordered table i names lines pairs h past =
     let all : lines ≡ map (line_of names) table = rw whole at h.lines_are in
     rw (sound, all) refl
 
-pub all-names : (ordered : List (List ℕ)) (table : List Row) (i : ℕ) (names : List (List ℕ)) (lines : List Line) (pairs : List (ℕ × ℕ)) → HasLines ordered table i names lines pairs → length table ≤ i → names ≡ with_names ordered (names_in table)
+pub all-names : (ordered : List (List ℕ)) (table : List Row) (i : ℕ) (names : List (List ℕ)) (lines : List Line) (pairs : BTreeSet (ℕ × ℕ)) → HasLines ordered table i names lines pairs → length table ≤ i → names ≡ with_names ordered (names_in table)
 all-names ordered table i names lines pairs h past = rw (take_all i table past) at h.names_are
-
--- a new pair goes last
-pub inserted-last : (pair : ℕ × ℕ) (pairs pairs' : List (ℕ × ℕ)) → list_any (same_pair pair) pairs ≡ false → pairs' ≡ cond (list_any (same_pair pair) pairs) pairs (pairs ++ pair ∷ []) → pairs' ≡ pairs ++ pair ∷ []
-inserted-last pair pairs pairs' fresh is = rw fresh at is

@@ -1,8 +1,15 @@
 -- The ends of rows as pairs of numbers.
-use Rattle.std.proofs.Common.{◌≡◌, ℕ, Bool, true, eqb, ◌&&◌, List, [], ◌∷◌, ◌++◌, map, refl}
+use Rattle.std.proofs.Common.{◌≡◌, ℕ, Bool, true, false, cond, eqb, ◌&&◌, ◌||◌, ◌∙◌, Ordering, List, [], ◌∷◌, ◌++◌, map, refl, sym}
+use Rattle.std.proofs.lemmas.Bool.{eq-eqb, eqb-true, ne_eqb, false≢true}
 use Rattle.std.proofs.lemmas.List.Concat.{flat_map-append}
 use Rattle.std.proofs.lemmas.List.Elements.{All-nil, All-cons, All-head, All-tail}
 use Rattle.std.proofs.lemmas.List.Sums.{fold-append}
+use Rattle.std.proofs.lemmas.List.Folds.{list_any-append}
+use Rattle.std.specs.BTreeMap.{is_at}
+use Rattle.std.specs.BTreeSet.{BTreeSet, IsEmpty, contains}
+use Rattle.std.specs.Cmp.{unsigned_tied}
+use Rattle.std.specs.Ordering.{is_eq, nat_cmp, ordering_then}
+use Rattle.std.specs.declared.cmp.Ordering.TheVariants.{Less, Equal, Greater}
 use Rattle.std.specs.Prelude.{All}
 use Rattle.std.specs.List.{list_any}
 use Rattle.bom_reader.specs.Names.{has_name, with_name, with_names}
@@ -51,3 +58,35 @@ pairs-same names row [] known all = refl
 pairs-same names row (other ∷ rows) known all =
     let first = All-head (IsKnown names) other rows all in
     rw (same-places names (assembly row) (assembly other) known.0 first.0, same-places names (part row) (part other) known.1 first.1, pairs-same names row rows known (All-tail (IsKnown names) other rows all)) refl
+
+-- the order of pairs in a set, which holds the pairs of a list where it has each of these and no other
+abbrev pub pair_cmp : ℕ × ℕ → ℕ × ℕ → Ordering
+pair_cmp a b = ordering_then (nat_cmp a.0 b.0) (nat_cmp a.1 b.1)
+
+abbrev pub HoldsPairs : BTreeSet (ℕ × ℕ) → List (ℕ × ℕ) → Type 0
+HoldsPairs set pairs = (q : ℕ × ℕ) → contains pair_cmp set q ≡ list_any (same_pair q) pairs
+
+pub pairs-none : (set : BTreeSet (ℕ × ℕ)) → IsEmpty set → HoldsPairs set []
+pairs-none set none q = rw none refl
+
+eqb-swap : (a b : ℕ) → eqb a b ≡ eqb b a
+eqb-swap a b = go (eqb a b) refl where
+  go : (t : Bool) → eqb a b ≡ t → eqb a b ≡ eqb b a
+  go true is = is ∙ sym (eq-eqb b a (sym (eqb-true a b is)))
+  go false is = is ∙ sym (ne_eqb b a (λ (e : b ≡ a). false≢true (sym is ∙ eq-eqb a b (sym e))))
+
+is_eq-then : (p q : Ordering) → is_eq (ordering_then p q) ≡ (is_eq p && is_eq q)
+is_eq-then Less q = refl
+is_eq-then Equal q = refl
+is_eq-then Greater q = refl
+
+pair_cmp-same : (a b : ℕ × ℕ) → is_at (pair_cmp a) b ≡ same_pair b a
+pair_cmp-same a b = is_eq-then (nat_cmp a.0 b.0) (nat_cmp a.1 b.1) ∙ rw (unsigned_tied a.0 b.0, unsigned_tied a.1 b.1, eqb-swap a.0 b.0, eqb-swap a.1 b.1) refl
+
+pub pairs-more : (set set' : BTreeSet (ℕ × ℕ)) (pairs : List (ℕ × ℕ)) (pair : ℕ × ℕ) → HoldsPairs set pairs → ((q : ℕ × ℕ) → contains pair_cmp set' q ≡ cond (is_at (pair_cmp pair) q) true (contains pair_cmp set q)) → HoldsPairs set' (pairs ++ pair ∷ [])
+pairs-more set set' pairs pair held after q = after q ∙ rw (pair_cmp-same pair q, held q, list_any-append (same_pair q) pairs (pair ∷ [])) (go (same_pair q pair) (list_any (same_pair q) pairs)) where
+  go : (s b : Bool) → cond s true b ≡ (b || (s || false))
+  go true true = refl
+  go true false = refl
+  go false true = refl
+  go false false = refl

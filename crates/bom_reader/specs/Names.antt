@@ -1,7 +1,10 @@
 -- Names of products, parts and suppliers. A name is the list of its bytes. Names are compared byte for byte, and numbered
 -- from 0 by their places in a list without repeats.
-use Rattle.std.specs.Prelude.{ℕ, Bool, ◌&&◌, not, ◌==◌, nat_le, if◌then◌else◌, List, [], ◌∷◌, ◌++◌, length, fold, position, Option}
-use Rattle.std.specs.List.{list_all, list_any}
+use Rattle.std.specs.Prelude.{◌≡◌, ◌≢◌, ◌<◌, ◌^◌, ℕ, Bool, ◌&&◌, not, ◌==◌, nat_le, if◌then◌else◌, List, [], ◌∷◌, ◌++◌}
+use Rattle.std.specs.Prelude.{length, fold, position, Option, String}
+use Rattle.std.specs.BTreeMap.{BTreeMap, get_by_text}
+use Rattle.std.specs.Global.{Global}
+use Rattle.std.specs.List.{list_all, list_any, AllPairs}
 use Rattle.std.specs.Str.{bytes_eq}
 use Rattle.tqd_base.specs.declared.limits.TheConstants.{NAME_MAX}
 
@@ -27,3 +30,9 @@ with_name names name = if has_name names name then names else names ++ name ∷ 
 -- the names with more of them, in the order of their first appearance
 abbrev pub with_names : List (List ℕ) → List (List ℕ) → List (List ℕ)
 with_names names more = fold with_name names more
+
+-- the names are different and fewer than 2^32, and the map has the number of each of them, and no other text
+pub record AreNumbered (names : List (List ℕ)) (numbers : BTreeMap (String Global) ℕ) : Type 0 where
+  pub few : length names < 2 ^ 32
+  pub distinct : AllPairs (λ a b. a ≢ b) names
+  pub each : (name : List ℕ) → get_by_text numbers name ≡ number_of names name

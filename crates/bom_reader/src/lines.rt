@@ -10,8 +10,8 @@ use crate::line::Line;
 use crate::names::NameList;
 use crate::reading::{is_name, read_units};
 use csv_rows::Table;
-use indexmap::IndexSet;
 use std::alloc::Global;
+use std::collections::BTreeSet;
 use tqd_base::Stop;
 use tqd_base::limits::NAMES_MAX;
 
@@ -28,7 +28,7 @@ pub(crate) fn read_lines(
     ensures names { OnOk result (names.new ≡ with_names names.old (names_in table.now)) }
 {
     let mut lines = Vec::with_capacity(alloc, table.len())?;
-    let mut pairs = IndexSet::with_capacity(alloc, table.len())?;
+    let mut pairs = BTreeSet::new(alloc);
     for row in 0..table.len() {
         let at = row as u64 + 2;
         let line = read_line(

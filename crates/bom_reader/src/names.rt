@@ -2,29 +2,34 @@ ghost use Rattle.std.specs.Prelude.{◌≡◌, ◌≢◌, ◌<◌, ◌^◌, [], 
 ghost use Rattle.std.specs.List.{AllPairs};
 ghost use Rattle.bom_reader.specs.Names.{number_of, with_name};
 
-use indexmap::IndexSet;
 use std::alloc::Global;
+use std::collections::BTreeMap;
 use std::marker::Model;
 use tqd_base::Memory;
 
 /// Names without repeats, numbered from 0 in the order in which they were added.
 ///
-/// Contracts see it as the list of its names, and a name as the list of its bytes. A look-up takes
-/// time in the length of the name alone, on average over names.
+/// Contracts see it as the list of its names, and a name as the list of its bytes. A look-up
+/// compares as many names as the logarithm of their number, whatever the names are: they come from
+/// files of others, and a table of hashes would be slow on names that were chosen to share one.
 #[derive(Drop)]
 pub struct NameList {
-    names: IndexSet<String>,
+    /// The names in the order of their numbers.
+    names: Vec<String>,
+    /// The number of each name.
+    numbers: BTreeMap<String, u32>,
 }
 
 impl Model for NameList {
-    ghost use Rattle.std.specs.Prelude.{◌<◌, ◌^◌, ℕ, List, length, map};
+    ghost use Rattle.std.specs.Prelude.{ℕ, List, map};
     ghost use Rattle.std.specs.String.{string_bytes};
+    ghost use Rattle.bom_reader.specs.Names.{AreNumbered};
 
     ghost Value = { List (List ℕ) };
 
-    ghost view = { λ list. map string_bytes list.names.keys };
+    ghost view = { λ list. map string_bytes list.names.items };
 
-    ghost invariant = { λ list. length list.names.keys < 2 ^ 32 };
+    ghost invariant = { λ list. AreNumbered (map string_bytes list.names.items) list.numbers };
 }
 
 impl NameList {
@@ -33,7 +38,8 @@ impl NameList {
         ensures { result ≡ [] }
     {
         NameList {
-            names: IndexSet::new(alloc),
+            names: Vec::new(alloc),
+            numbers: BTreeMap::new(alloc),
         }
     }
 
@@ -51,17 +57,14 @@ impl NameList {
         requires { n < length self.now }
         ensures { result.now ≡ slice_index_or self.now n [] }
     {
-        self.names.as_slice()[n].as_str()
+        self.names[n].as_str()
     }
 
     /// The number of a name, where it is in the list.
     pub fn number(&self, name: &str) -> Option<u32>
         ensures { result ≡ number_of self.now name.now }
     {
-        match self.names.get_index_of(name) {
-            Some(n) => Some(n as u32),
-            None => None,
-        }
+        self.numbers.get(name).copied()
     }
 
     /// Adds a name, last, where it is not in the list yet, and answers its number. A list that holds
@@ -90,8 +93,12 @@ impl NameList {
         if n >= u32::MAX as usize {
             return Err(Memory);
         }
-        let text = String::from_str(*self.names.allocator(), name)?;
-        self.names.insert(text)?;
+        let alloc = *self.names.allocator();
+        let text = String::from_str(alloc, name)?;
+        let key = String::from_str(alloc, name)?;
+        self.names.reserve(1)?;
+        self.numbers.insert(key, n as u32)?;
+        self.names.push(text)?;
         Ok(n as u32)
     }
 }

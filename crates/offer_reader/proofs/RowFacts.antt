@@ -1,8 +1,9 @@
 -- One row more of offers.
-use Rattle.std.proofs.Common.{ℕ, ◌≡◌, ◌<◌, Bool, true, false, not, ltb, ◌&&◌, List, [], ◌∷◌, ◌++◌, length, map, get_or, Option, None, Some, refl, sym, ap, ◌∙◌, arith}
+use Rattle.std.proofs.Common.{ℕ, ◌≡◌, ◌<◌, Bool, true, false, not, ltb, ◌&&◌, ◌||◌, List, [], ◌∷◌, ◌++◌, length, map, get_or, Option, None, Some, refl, sym, ap, ◌∙◌, arith}
 use Rattle.std.proofs.lemmas.Bool.{le-ltb, ltb-false}
 use Rattle.std.proofs.lemmas.List.{map-append}
 use Rattle.std.proofs.lemmas.List.Elements.{All-nil, All-cons, All-head, All-tail, All-append, All-weaker}
+use Rattle.std.proofs.lemmas.List.Folds.{list_any-append}
 use Rattle.std.proofs.lemmas.List.Sums.{fold-append}
 use Rattle.std.specs.Prelude.{All, is_none}
 use Rattle.std.specs.List.{list_any, position_or_len}
@@ -15,16 +16,17 @@ use Rattle.bom_reader.specs.Rows.{Row, row_number}
 use Rattle.bom_reader.proofs.NamePlaces.{has_name-added, has_name-stays, place-stays, same-places}
 use Rattle.bom_reader.proofs.FirstFault.{first_fault-append, or-none, fault_if-none}
 use Rattle.tqd_instance.specs.declared.parts.PriceRow.{PriceRow}
+use Rattle.offer_reader.proofs.KeyFacts.{key_added}
 use Rattle.offer_reader.proofs.PriceFacts.{froms_few, each_more, place_more, prices_more}
 use Rattle.offer_reader.specs.Offers.{Wanted, OffersData, good_of, offers_of, with_offer, with_price, no_offers, same_offer, supplier, part, from_of, amount_of, froms_of, offer_fault, offer_fault_after, intervals_at}
 use Rattle.offer_reader.specs.Reading.{PricesData, ArePrices, fields_fault, key_of, many_fault, numbers_of, priced}
-use Rattle.offer_reader.specs.Steps.{ReadingData, IsRead, HasOffers, offers_read, goods_with, good_fault, row_key, same_key, step_fault, stepped, with_names_of}
+use Rattle.offer_reader.specs.Steps.{ReadingData, IsRead, HasOffers, offers_read, goods_with, good_fault, row_key, same_key, step_fault, stepped, with_key, with_names_of}
 use Rattle.offer_reader.specs.declared.fault.OfferFault.{OfferFault}
 use Rattle.offer_reader.specs.declared.fault.OfferFault.TheVariants.{Name, From, Price, Twice, TooManySuppliers, TooManyIntervals}
 
 -- the offers with one row more are those of the reading after it
 step_by : (reading : ReadingData) (row : Row) (o : Option ℕ)
-    → offers_read (record { sellers = with_name reading.sellers (supplier row); offered = with_name reading.offered (part row); goods = goods_with reading.goods row o; keys = reading.keys ++ row_key reading row ∷ [] })
+    → offers_read (record { sellers = with_name reading.sellers (supplier row); offered = with_name reading.offered (part row); goods = goods_with reading.goods row o; keys = with_key reading.keys (row_key reading row) })
     ≡ with_price o row (record (offers_read reading) { sellers = with_name reading.sellers (supplier row); offered = with_name reading.offered (part row) })
 step_by reading row None = refl
 step_by reading row (Some good) = refl
@@ -98,12 +100,12 @@ row_repeats_are : (wanted : Wanted) (rows : List Row) (row : Row) (reading : Rea
     → list_any (same_key (row_key reading row)) reading.keys ≡ list_any (same_offer row) rows
 row_repeats_are wanted rows row reading has =
     let known = All-weaker (IsRead (offers_read reading)) (IsRead (offers_read (with_names_of reading row))) (λ other there. read_stays reading row other there) rows has.names in
-    ap (λ keys. list_any (same_key (row_key reading row)) keys) (has.keys ∙ sym (keys_stay reading row rows has.names))
+    has.keys (row_key reading row) ∙ ap (λ keys. list_any (same_key (row_key reading row)) keys) (sym (keys_stay reading row rows has.names))
     ∙ repeats_are (offers_read (with_names_of reading row)) row rows (read_own reading row) known
 
 -- the reading after a row whose part is the good of this number, if any
 reading_with : ReadingData → Row → Option ℕ → ReadingData
-reading_with reading row o = record { sellers = with_name reading.sellers (supplier row); offered = with_name reading.offered (part row); goods = goods_with reading.goods row o; keys = reading.keys ++ row_key reading row ∷ [] }
+reading_with reading row o = record { sellers = with_name reading.sellers (supplier row); offered = with_name reading.offered (part row); goods = goods_with reading.goods row o; keys = with_key reading.keys (row_key reading row) }
 
 tail_same : (reading : ReadingData) (row : Row) (at : ℕ) (o : Option ℕ) → ArePrices reading.goods
     → fault_if (ltb SUPPLIERS_MAX (length (offers_read (reading_with reading row o)).suppliers)) (TooManySuppliers at) (fault_if (ltb INTERVALS_MAX (intervals_at (offers_read (reading_with reading row o)) row)) (TooManyIntervals at) None)
@@ -138,6 +140,16 @@ goods_more reading row at (Some good) are none =
 read_after : (wanted : Wanted) (reading : ReadingData) (row other : Row) → IsRead (offers_read (with_names_of reading row)) other → IsRead (offers_read (stepped wanted reading row)) other
 read_after wanted reading row other h = record { seller = h.seller; part = h.part }
 
+keys_more : (wanted : Wanted) (rows : List Row) (row : Row) (reading : ReadingData) → HasOffers wanted rows reading → (key : ℕ × ℕ × ℕ)
+    → list_any (same_key key) (with_key reading.keys (row_key reading row)) ≡ list_any (same_key key) (map (key_of (offers_read (with_names_of reading row))) (rows ++ row ∷ []))
+keys_more wanted rows row reading has key =
+    let last = row_key reading row in
+    let keys = map (key_of (offers_read (with_names_of reading row))) rows in
+    let before : list_any (same_key key) reading.keys ≡ list_any (same_key key) keys = has.keys key ∙ ap (λ list. list_any (same_key key) list) (sym (keys_stay reading row rows has.names)) in
+    key_added reading.keys last key
+    ∙ (list_any-append (same_key key) reading.keys (last ∷ []) ∙ (ap (λ (b : Bool). b || list_any (same_key key) (last ∷ [])) before ∙ sym (list_any-append (same_key key) keys (last ∷ []))))
+    ∙ ap (λ list. list_any (same_key key) list) (sym (map-append (key_of (offers_read (with_names_of reading row))) rows (row ∷ [])))
+
 -- and where there is none, the row was read
 pub offers_more : (wanted : Wanted) (rows : List Row) (row : Row) (reading : ReadingData) → HasOffers wanted rows reading
     → step_fault wanted reading (row_number rows) row ≡ None → HasOffers wanted (rows ++ row ∷ []) (stepped wanted reading row)
@@ -148,7 +160,7 @@ offers_more wanted rows row reading has none =
     let known = All-weaker (IsRead (offers_read reading)) (IsRead (offers_read (stepped wanted reading row))) (λ other there. read_after wanted reading row other (read_stays reading row other there)) rows has.names in
     record {
       offers = step_offers wanted rows row reading has.offers;
-      keys = ap (λ keys. keys ++ row_key reading row ∷ []) (has.keys ∙ sym (keys_stay reading row rows has.names)) ∙ sym (map-append (key_of (offers_read (stepped wanted reading row))) rows (row ∷ []));
+      keys = λ key. keys_more wanted rows row reading has key;
       names = All-append (IsRead (offers_read (stepped wanted reading row))) rows (row ∷ []) known (All-cons (IsRead (offers_read (stepped wanted reading row))) row [] (read_after wanted reading row row (read_own reading row)) (All-nil (IsRead (offers_read (stepped wanted reading row)))));
       goods = goods_more reading row at (good_of wanted (part row)) has.goods good.1;
       sound = first_fault-append (offer_fault_after wanted) [] rows (row ∷ []) has.sound ∙ ap (λ (o : Option OfferFault). option_or o None) (sym (fault_same wanted rows row reading has) ∙ none);
@@ -158,7 +170,7 @@ offers_more wanted rows row reading has none =
 pub no_rows : (wanted : Wanted) → HasOffers wanted [] (record { sellers = []; offered = []; goods = record { suppliers = []; froms = []; rows = [] }; keys = [] })
 no_rows wanted = record {
   offers = refl;
-  keys = refl;
+  keys = λ key. refl;
   names = All-nil (IsRead no_offers);
   goods = record { as_many = refl; each = λ i inside. absurd (omega arith); few = λ i inside. absurd (omega arith); few_suppliers = omega arith; of_suppliers = All-nil (λ (r : PriceRow). r.supplier < 0) };
   sound = refl;

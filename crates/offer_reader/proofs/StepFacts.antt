@@ -1,5 +1,5 @@
 -- What a row with its numbers, its key and its good makes of a reading.
-use Rattle.std.proofs.Common.{ℕ, ◌≡◌, Bool, true, false, None, Some, Result, Ok, Err, refl, sym, ap, ◌∙◌, subst}
+use Rattle.std.proofs.Common.{ℕ, ◌≡◌, Bool, true, false, None, Some, Result, Ok, Err, refl, sym, subst}
 use Rattle.std.specs.List.{list_any}
 use Rattle.tqd_base.specs.declared.memory.Stop.{Stop}
 use Rattle.tqd_base.specs.declared.memory.Stop.TheVariants.{Refused, Memory}
@@ -8,7 +8,7 @@ use Rattle.bom_reader.specs.Rows.{Row}
 use Rattle.bom_reader.proofs.FirstFault.{unless-ok, unless-value, unless-err}
 use Rattle.offer_reader.specs.Offers.{Wanted, good_of, supplier, part}
 use Rattle.offer_reader.specs.Reading.{fields_fault, many_fault, numbers_of, priced}
-use Rattle.offer_reader.specs.Steps.{ReadingData, key_in, same_key, step_fault, stepped, with_key, with_names_of}
+use Rattle.offer_reader.specs.Steps.{ReadingData, key_in, same_key, step_fault, with_names_of}
 use Rattle.offer_reader.specs.declared.fault.OfferFault.{OfferFault}
 use Rattle.offer_reader.specs.declared.fault.OfferFault.TheVariants.{Twice}
 use Rattle.offer_reader.specs.declared.reading.OfferNumbers.{OfferNumbers}
@@ -51,20 +51,3 @@ pub other_answers : (wanted : Wanted) (reading : ReadingData) (at : ℕ) (row : 
 other_answers wanted reading at row numbers has fresh unnamed =
     let here : repeats reading row (numbers_of row) ≡ false = subst (λ (n : OfferNumbers). repeats reading row n ≡ false) has.numbers_are fresh in
     rw (has.sound, here, unnamed) refl
-
--- the reading with the names and the key of a row
-abbrev pub noted_names : ReadingData → Row → OfferNumbers → ReadingData
-noted_names reading row numbers = record (with_names_of reading row) { keys = with_key reading.keys (key_in (with_names_of reading row) row numbers.from) }
-
-pub good_steps : (wanted : Wanted) (reading : ReadingData) (at : ℕ) (row : Row) (numbers : OfferNumbers) (good : ℕ) → HasNumbers at row numbers
-    → repeats reading row numbers ≡ false → good_of wanted (part row) ≡ Some good
-    → record (noted_names reading row numbers) { goods = priced reading.goods (supplier row) good numbers } ≡ stepped wanted reading row
-good_steps wanted reading at row numbers good has fresh named =
-    let here : repeats reading row (numbers_of row) ≡ false = subst (λ (n : OfferNumbers). repeats reading row n ≡ false) has.numbers_are fresh in
-    ap (λ (n : OfferNumbers). record (noted_names reading row n) { goods = priced reading.goods (supplier row) good n }) has.numbers_are ∙ rw (here, named) refl
-
-pub other_steps : (wanted : Wanted) (reading : ReadingData) (at : ℕ) (row : Row) (numbers : OfferNumbers) → HasNumbers at row numbers
-    → repeats reading row numbers ≡ false → good_of wanted (part row) ≡ None → noted_names reading row numbers ≡ stepped wanted reading row
-other_steps wanted reading at row numbers has fresh unnamed =
-    let here : repeats reading row (numbers_of row) ≡ false = subst (λ (n : OfferNumbers). repeats reading row n ≡ false) has.numbers_are fresh in
-    ap (λ (n : OfferNumbers). noted_names reading row n) has.numbers_are ∙ rw (here, unnamed) refl

@@ -1,7 +1,8 @@
 -- The rows of a table of terms, read one after the other.
-use Rattle.std.proofs.Common.{ℕ, ◌≡◌, ◌+◌, ◌<◌, ◌≤◌, Bool, List, [], ◌∷◌, ◌++◌, length, get_or, take, map, Option, None, Some, Ok, Err, refl, sym, ap, ◌∙◌, subst, arith}
-use Rattle.std.proofs.lemmas.List.{length-take-le, take_more, take_all, map-append}
+use Rattle.std.proofs.Common.{ℕ, ◌≡◌, ◌+◌, ◌<◌, ◌≤◌, Bool, ◌||◌, List, [], ◌∷◌, ◌++◌, length, get_or, take, Option, None, Some, Ok, Err, refl, sym, ap, ◌∙◌, subst, arith}
+use Rattle.std.proofs.lemmas.List.{length-take-le, take_more, take_all}
 use Rattle.std.proofs.lemmas.List.Elements.{filter_map-append}
+use Rattle.std.proofs.lemmas.List.Folds.{list_any-append}
 use Rattle.std.specs.Prelude.{All, filter_map}
 use Rattle.std.specs.List.{cons_option, list_any}
 use Rattle.std.specs.Option.{option_or}
@@ -10,7 +11,7 @@ use Rattle.tqd_base.specs.declared.memory.Stop.TheVariants.{Refused, Memory}
 use Rattle.bom_reader.specs.Faults.{Answers, fault_if, first_fault, unless}
 use Rattle.bom_reader.specs.Rows.{Row, row_number}
 use Rattle.bom_reader.proofs.FirstFault.{unless-ok, unless-err, first_fault-append, first_fault-at}
-use Rattle.bom_reader.proofs.Places.{list_any-map}
+use Rattle.offer_reader.proofs.KeyFacts.{term_added}
 use Rattle.offer_reader.specs.Offers.{Wanted}
 use Rattle.offer_reader.specs.Book.{BookData}
 use Rattle.offer_reader.specs.TermForms.{kind, kind_of}
@@ -23,17 +24,14 @@ use Rattle.offer_reader.specs.declared.term_fault.TermFault.TheVariants.{Twice}
 
 -- the rows were read without a fault
 pub record HasTerms (wanted : Wanted) (book : BookData) (rows : List Row) (reading : ReadingData) : Type 0 where
-  pub keys_are : reading.keys ≡ map key_of rows
+  pub keys_are : (row : Row) → list_any (same_term row) reading.keys ≡ list_any (same_term row) rows
   pub terms_are : reading.terms ≡ filter_map (term_of wanted book.suppliers) rows
   pub sound : first_fault (term_fault_after wanted book) [] rows ≡ None
 
--- a key says of a repeat what its row does
-repeats_same : (row : Row) (rows : List Row) → list_any (same_term row) (map key_of rows) ≡ list_any (same_term row) rows
-repeats_same row rows = list_any-map (same_term row) key_of rows
-
-fault_same : (wanted : Wanted) (book : BookData) (rows : List Row) (at : ℕ) (row : Row) → term_fault wanted book (map key_of rows) at row ≡ term_fault wanted book rows at row
-fault_same wanted book rows at row =
-    ap (λ (b : Bool). option_or (form_fault at row (kind_of (kind row))) (option_or (names_fault wanted.names book at row) (fault_if b (Twice at) None))) (repeats_same row rows)
+-- the keys say of a repeat what the rows do
+fault_same : (wanted : Wanted) (book : BookData) (rows : List Row) (reading : ReadingData) (at : ℕ) (row : Row) → HasTerms wanted book rows reading → term_fault wanted book reading.keys at row ≡ term_fault wanted book rows at row
+fault_same wanted book rows reading at row has =
+    ap (λ (b : Bool). option_or (form_fault at row (kind_of (kind row))) (option_or (names_fault wanted.names book at row) (fault_if b (Twice at) None))) (has.keys_are row)
 
 five_fields : (row : Row) → length row ≡ 5 → get_or row 0 [] ∷ get_or row 1 [] ∷ get_or row 2 [] ∷ get_or row 3 [] ∷ get_or row 4 [] ∷ [] ≡ row
 five_fields (a ∷ b ∷ c ∷ d ∷ e ∷ []) five = refl
@@ -62,14 +60,14 @@ fault_here : (wanted : Wanted) (book : BookData) (table : List Row) (i : ℕ) (t
 fault_here wanted book table i texts reading has t =
     ap (λ n. term_fault wanted book (take i table) n (get_or table i [])) (number_is table i t.inside)
     ∙ ap (λ (r : Row). term_fault wanted book (take i table) (i + 2) r) (sym (the_row table i texts t))
-    ∙ sym (fault_same wanted book (take i table) (i + 2) texts)
-    ∙ ap (λ (earlier : List Row). term_fault wanted book earlier (i + 2) texts) (sym has.keys_are)
+    ∙ sym (fault_same wanted book (take i table) reading (i + 2) texts has)
 
 -- one row more
 rows_more : (wanted : Wanted) (book : BookData) (rows : List Row) (row : Row) (reading : ReadingData) → HasTerms wanted book rows reading
     → term_fault_after wanted book rows row ≡ None → HasTerms wanted book (rows ++ row ∷ []) (stepped wanted book.suppliers reading row)
 rows_more wanted book rows row reading has none = record {
-  keys_are = ap (λ (list : List Row). list ++ key_of row ∷ []) has.keys_are ∙ sym (map-append key_of rows (row ∷ []));
+  keys_are = λ q. term_added reading.keys row q
+      ∙ (list_any-append (same_term q) reading.keys (key_of row ∷ []) ∙ (ap (λ (b : Bool). b || list_any (same_term q) (row ∷ [])) (has.keys_are q) ∙ sym (list_any-append (same_term q) rows (row ∷ []))));
   terms_are = ap (λ (list : List Term). list ++ cons_option (term_of wanted book.suppliers row) []) has.terms_are ∙ sym (filter_map-append (term_of wanted book.suppliers) rows (row ∷ []));
   sound = first_fault-append (term_fault_after wanted book) [] rows (row ∷ []) has.sound ∙ ap (λ (o : Option TermFault). option_or o None) none;
 }
@@ -100,4 +98,4 @@ all_read wanted book table i reading has past =
     rw (all.sound, all.terms_are) refl
 
 pub no_rows : (wanted : Wanted) (book : BookData) → HasTerms wanted book [] (record { keys = []; terms = [] })
-no_rows wanted book = record { keys_are = refl; terms_are = refl; sound = refl }
+no_rows wanted book = record { keys_are = λ row. refl; terms_are = refl; sound = refl }

@@ -1,7 +1,10 @@
 -- What one row makes of a reading of offers.
-use Rattle.std.specs.Prelude.{ℕ, ◌≡◌, ◌==◌, Bool, true, ◌&&◌, List, [], ◌∷◌, ◌++◌, map, All, if◌then◌else◌, Option, None, Some, Result, Ok, Err}
+use Rattle.std.specs.Prelude.{ℕ, ◌≡◌, ◌==◌, Bool, true, ◌&&◌, List, [], map, All, Option, None, Some, Result, Ok, Err}
+use Rattle.std.specs.BTreeSet.{insert_key}
 use Rattle.std.specs.List.{list_any, position_or_len}
 use Rattle.std.specs.Option.{option_or}
+use Rattle.std.specs.Ordering.{nat_cmp, ordering_then}
+use Rattle.std.specs.declared.cmp.Ordering.{Ordering}
 use Rattle.std.specs.Str.{bytes_eq}
 use Rattle.tqd_base.specs.declared.memory.Stop.{Stop}
 use Rattle.tqd_base.specs.declared.memory.Stop.TheVariants.{Refused, Memory}
@@ -13,7 +16,7 @@ use Rattle.offer_reader.specs.Reading.{PricesData, ArePrices, fields_fault, key_
 use Rattle.offer_reader.specs.declared.fault.OfferFault.{OfferFault}
 use Rattle.offer_reader.specs.declared.fault.OfferFault.TheVariants.{Twice}
 
--- everyone who sells, every part that is offered, the prices of goods, and the keys of the rows
+-- everyone who sells, every part that is offered, the prices of goods, and the keys of the rows in the order of keys
 pub record ReadingData : Type 0 where
   pub sellers : List (List ℕ)
   pub offered : List (List ℕ)
@@ -42,9 +45,13 @@ key_in reading row from = (position_or_len (bytes_eq (supplier row)) reading.sel
 abbrev pub row_key : ReadingData → Row → ℕ × ℕ × ℕ
 row_key reading row = key_in (with_names_of reading row) row (from_units row)
 
--- the keys with one more, which goes last where it is new
+-- the order of keys
+abbrev pub key_cmp : ℕ × ℕ × ℕ → ℕ × ℕ × ℕ → Ordering
+key_cmp a b = ordering_then (ordering_then (nat_cmp a.0 b.0) (nat_cmp a.1 b.1)) (nat_cmp a.2 b.2)
+
+-- the keys with one more, which goes to its place where it is new
 abbrev pub with_key : List (ℕ × ℕ × ℕ) → ℕ × ℕ × ℕ → List (ℕ × ℕ × ℕ)
-with_key keys key = if list_any (same_key key) keys then keys else keys ++ key ∷ []
+with_key keys key = insert_key key_cmp keys key
 
 -- the reading after one more row
 abbrev pub stepped : Wanted → ReadingData → Row → ReadingData
@@ -52,7 +59,7 @@ stepped wanted reading row = record {
   sellers = with_name reading.sellers (supplier row);
   offered = with_name reading.offered (part row);
   goods = goods_with reading.goods row (good_of wanted (part row));
-  keys = reading.keys ++ row_key reading row ∷ [];
+  keys = with_key reading.keys (row_key reading row);
 }
 
 -- the fault of a price, where the part of the row is a good
@@ -73,7 +80,7 @@ pub record IsRead (offers : OffersData) (row : Row) : Type 0 where
 -- the rows were read without a fault
 pub record HasOffers (wanted : Wanted) (rows : List Row) (reading : ReadingData) : Type 0 where
   pub offers : offers_read reading ≡ offers_of wanted rows
-  pub keys : reading.keys ≡ map (key_of (offers_read reading)) rows
+  pub keys : (key : ℕ × ℕ × ℕ) → list_any (same_key key) reading.keys ≡ list_any (same_key key) (map (key_of (offers_read reading)) rows)
   pub names : All (IsRead (offers_read reading)) rows
   pub goods : ArePrices reading.goods
   pub sound : first_fault (offer_fault_after wanted) [] rows ≡ None

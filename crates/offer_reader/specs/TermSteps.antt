@@ -1,5 +1,5 @@
 -- What reading a row of terms gives.
-use Rattle.std.specs.Prelude.{ℕ, ◌≡◌, ◌++◌, ◌∷◌, [], List, None, Some, Result, Ok, Err}
+use Rattle.std.specs.Prelude.{ℕ, ◌≡◌, ◌++◌, [], List, None, Some, Result, Ok, Err}
 use Rattle.std.specs.List.{cons_option}
 use Rattle.tqd_base.specs.declared.memory.Stop.{Stop}
 use Rattle.tqd_base.specs.declared.memory.Stop.TheVariants.{Refused, Memory}
@@ -7,7 +7,7 @@ use Rattle.bom_reader.specs.Rows.{Row}
 use Rattle.offer_reader.specs.TermForms.{kind, kind_of, forms_of, bad_field}
 use Rattle.offer_reader.specs.Terms.{form_fault, term_of}
 use Rattle.offer_reader.specs.Offers.{Wanted}
-use Rattle.offer_reader.specs.TermRows.{key_of}
+use Rattle.offer_reader.specs.TermRows.{with_key}
 use Rattle.offer_reader.specs.declared.kind.TermKind.{TermKind}
 use Rattle.offer_reader.specs.declared.term.Term.{Term}
 use Rattle.offer_reader.specs.declared.term_fault.TermFault.{TermFault}
@@ -23,7 +23,7 @@ HasKind at row (Ok k) = IsFormed row k
 HasKind at row (Err (Refused fault)) = form_fault at row (kind_of (kind row)) ≡ Some fault
 HasKind at row (Err Memory) = Unit {0}
 
--- the keys of the rows that were read, and their terms
+-- the keys of the rows that were read, in the order of keys, and the terms of the rows
 pub record ReadingData : Type 0 where
   pub keys : List Row
   pub terms : List Term
@@ -31,6 +31,6 @@ pub record ReadingData : Type 0 where
 -- the reading after one more row, where these suppliers offer goods
 abbrev pub stepped : Wanted → List (List ℕ) → ReadingData → Row → ReadingData
 stepped wanted suppliers reading row = record {
-  keys = reading.keys ++ key_of row ∷ [];
+  keys = with_key reading.keys row;
   terms = reading.terms ++ cons_option (term_of wanted suppliers row) [];
 }

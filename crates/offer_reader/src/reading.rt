@@ -10,9 +10,9 @@ use crate::fault::OfferFault;
 use crate::wanted::good_of;
 use bom_explode::Needs;
 use bom_reader::{NameList, is_name};
-use indexmap::IndexSet;
 use money::{Price, read_qty};
 use std::alloc::Global;
+use std::collections::BTreeSet;
 use std::marker::Model;
 use tqd_base::limits::{INTERVALS_MAX, QTY_MAX, SUPPLIERS_MAX};
 use tqd_base::{Memory, Stop};
@@ -182,7 +182,7 @@ pub(crate) struct OfferReading {
     pub(crate) sellers: NameList,
     pub(crate) offered: NameList,
     pub(crate) goods: GoodPrices,
-    keys: IndexSet<(u32, u64, u32)>,
+    keys: BTreeSet<(u32, u64, u32)>,
 }
 
 impl Model for OfferReading {
@@ -203,7 +203,7 @@ impl OfferReading {
             sellers: NameList::empty(alloc),
             offered: NameList::empty(alloc),
             goods: GoodPrices::empty(alloc),
-            keys: IndexSet::new(alloc),
+            keys: BTreeSet::new(alloc),
         }
     }
 

@@ -5,8 +5,8 @@ ghost use Rattle.offer_reader.specs.Terms.{term_rows};
 
 use crate::term_fault::TermFault;
 use csv_rows::{Table, rows};
-use indexmap::IndexSet;
 use std::alloc::Global;
+use std::collections::BTreeSet;
 use std::marker::Model;
 use tqd_base::{Memory, Stop};
 
@@ -31,10 +31,11 @@ pub(crate) fn term_table(alloc: Global, bytes: &[u8]) -> Result<Table, Stop<Term
     }
 }
 
-/// The kinds, suppliers and parts of rows. A look-up takes time in the length of the texts alone, on average.
+/// The kinds, suppliers and parts of rows. A look-up compares as many of them as the logarithm of their number, whatever
+/// the texts are.
 #[derive(Drop)]
 pub(crate) struct TermKeys {
-    keys: IndexSet<(String, String, String)>,
+    keys: BTreeSet<(String, String, String)>,
 }
 
 impl Model for TermKeys {
@@ -57,7 +58,7 @@ impl TermKeys {
         ensures { result ≡ [] }
     {
         TermKeys {
-            keys: IndexSet::new(alloc),
+            keys: BTreeSet::new(alloc),
         }
     }
 

@@ -1,4 +1,4 @@
-use Rattle.std.proofs.Common.{◌≡◌, List, not, map, refl, ap, ◌∙◌}
+use Rattle.std.proofs.Common.{◌≡◌, List, not, map, ap, refl, ◌∙◌}
 use Rattle.std.specs.List.{list_any}
 use Rattle.bom_reader.specs.Rows.{Row}
 use Rattle.offer_reader.specs.Terms.{same_term}
