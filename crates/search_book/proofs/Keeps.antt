@@ -11,7 +11,7 @@ use Rattle.tqd_instance.specs.Cost.{cost}
 use Rattle.tqd_instance.specs.Least.{Least, HasNoPurchase}
 use Rattle.interval_box.specs.declared.boxes.IntervalBox.{IntervalBox}
 use Rattle.tqd_base.specs.declared.limits.TheConstants.{SUPPLIERS_MAX}
-use Rattle.interval_box.specs.Ranges.{IsRoot}
+use Rattle.interval_box.specs.Ranges.{IsBoxOf, IsRoot}
 use Rattle.interval_box.proofs.Split.{place}
 use Rattle.interval_box.specs.Halves.{IsProper, low_half, high_half}
 use Rattle.bound_tree.specs.declared.leaf.Leaf.{Leaf}
@@ -22,7 +22,6 @@ use Rattle.search_book.specs.Nodes.{node_at, area_of, phase_of, HasPhase, with_p
 use Rattle.search_book.specs.BookState.{BookState, best_cost}
 use Rattle.search_book.specs.Events.{take_node, improve, close_node, split_node, give_back, release, marked, divided, half_node, released, freed, freed_phase, Happens}
 use Rattle.search_book.specs.Counts.{is_open, is_taken}
-use Rattle.search_book.specs.Covered.{IsCovered}
 use Rattle.search_book.specs.Kept.{IsKept}
 use Rattle.search_book.specs.Answers.{IsSettled, IsUnsettled, HasLeast}
 use Rattle.search_book.proofs.Marks.{marked_length, marked_phase, marked_other, marked_sum, freed_length}
@@ -256,8 +255,7 @@ vec_divided xs ys zs ms ps qs a b low high len n p phase same read long p_is mar
     ∙ (ap (λ ks. ks ++ (a ∷ b ∷ [])) at ∙ (ap (λ x. with_phase xs n phase ++ (x ∷ b ∷ [])) a_is ∙ ap (λ x. with_phase xs n phase ++ (low ∷ x ∷ [])) b_is))))
 
 -- a proper split is at a supplier for which a box has a place
-pub split_place : (s : BookState) (n i at : ℕ) → IsCovered s → n < length s.nodes → IsProper (area_of s.nodes n) i at → i < SUPPLIERS_MAX
-split_place s n i at c known proper =
-    let box = c.boxes n known in
-    let here = place s.job (area_of s.nodes n) i at box proper in
+pub box_place : (job : Job) (area : IntervalBox) (i at : ℕ) → IsBoxOf job area → IsProper area i at → i < SUPPLIERS_MAX
+box_place job area i at box proper =
+    let here = place job area i at box proper in
     omega (arith, here.low, box.low_places)

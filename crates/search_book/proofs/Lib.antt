@@ -9,3 +9,4 @@ pub mod ManyEvents
 pub mod Decides
 pub mod OneRun
 pub mod Trees
+pub mod BoxAbove

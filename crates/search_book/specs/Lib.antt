@@ -10,3 +10,4 @@ pub mod TreeOf
 pub mod Preorder
 pub mod Answers
 pub mod Taken
+pub mod SplitAbove

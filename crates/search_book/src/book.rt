@@ -7,8 +7,10 @@ ghost use Rattle.search_book.specs.Counts.{open_count, taken_count};
 ghost use Rattle.search_book.specs.Answers.{state_of, IsSettled, IsTakenAt, IsUnsettled, VerdictSays};
 ghost use Rattle.search_book.specs.Taken.{NoneTaken};
 
+use crate::above::split_above;
 use crate::answers::{BookVerdict, State};
 use crate::node::{Node, Phase};
+use crate::node_box::NodeBox;
 use interval_box::IntervalBox;
 use std::alloc::Global;
 use std::marker::Model;
@@ -51,7 +53,7 @@ impl<'j> Book<'j> {
     {
         let mut nodes = Vec::new(alloc);
         nodes.push(Node {
-            area: IntervalBox::root(job),
+            area: NodeBox::hold(alloc, IntervalBox::root(job))?,
             phase: Phase::Open,
         })?;
         Ok(Book {
@@ -117,13 +119,20 @@ impl<'j> Book<'j> {
         }
     }
 
-    /// The box of a node.
+    /// The box of a node. That of a node that is split or closed is no more held, and is worked out from the splits above
+    /// it, for each of which the nodes before are searched.
     pub fn area(&self, n: u64) -> IntervalBox
         requires { n < length self.now.nodes }
         ensures value { result ≡ area_of self.now.nodes n }
         ensures of_job { IsBoxOf self.now.job result }
     {
-        self.nodes[n as usize].area
+        if let Some(area) = self.nodes[n as usize].area.held() {
+            return area;
+        }
+        match split_above(&self.nodes, n as usize) {
+            Some((above, half)) => half.of(&self.area(above as u64)),
+            None => IntervalBox::root(self.job),
+        }
     }
 
     /// Whether a node is Taken and has this box. False where no node has this number.

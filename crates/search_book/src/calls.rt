@@ -67,10 +67,11 @@ impl<'j> Book<'j> {
         ensures later { IsLater self.old self.new }
         ensures due { due_size self.new ≡ due_size self.old }
     {
+        let area = self.area(n as u64);
         mark(&mut self.nodes, n, Phase::Taken);
         self.open_nodes -= 1;
         self.taken_nodes += 1;
-        self.nodes[n].area
+        area
     }
 
     /// Makes a plan the best one, where there is none or it costs more. `cost` is what the plan costs, in millionths of
@@ -104,7 +105,8 @@ impl<'j> Book<'j> {
         ensures due { (result ≡ Close.Closed) → due_size self.new < due_size self.old }
     {
         let best = self.best();
-        if !leaf.kills(self.job, &self.nodes[n as usize].area, best) {
+        let area = self.area(n);
+        if !leaf.kills(self.job, &area, best) {
             return Close::Short(best);
         }
         mark(&mut self.nodes, n as usize, Phase::Closed(leaf));
@@ -137,9 +139,12 @@ impl<'j> Book<'j> {
         ensures later { IsLater self.old self.new }
         ensures due { OnOk result (due_size self.new + 1 ≡ due_size self.old) }
     {
+        let (low_area, high_area) = self.area(n).halves(i, s);
+        let alloc = *self.nodes.allocator();
+        let low_node = half(alloc, low_area, keep_low)?;
+        let high_node = half(alloc, high_area, !keep_low)?;
         self.nodes.reserve(2)?;
         let low = self.nodes.len() as u64;
-        let (low_area, high_area) = self.nodes[n as usize].area.halves(i, s);
         let phase = Phase::Split {
             low,
             high: low + 1,
@@ -147,8 +152,8 @@ impl<'j> Book<'j> {
             at: s,
         };
         mark(&mut self.nodes, n as usize, phase);
-        self.nodes.push_reserved(half(low_area, keep_low));
-        self.nodes.push_reserved(half(high_area, !keep_low));
+        self.nodes.push_reserved(low_node);
+        self.nodes.push_reserved(high_node);
         self.open_nodes += 1;
         Ok((low, low + 1))
     }

@@ -12,12 +12,14 @@
 //! leads to one state.
 #![tactic(auto)]
 
+mod above;
 mod answers;
 mod book;
 mod calls;
 mod finish;
 pub mod laws;
 mod node;
+mod node_box;
 mod nodes;
 
 pub use answers::{BookVerdict, Close, Improve, State, Take};

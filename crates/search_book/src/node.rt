@@ -1,5 +1,5 @@
+use crate::node_box::NodeBox;
 use bound_tree::Leaf;
-use interval_box::IntervalBox;
 
 /// What became of a node so far.
 #[derive(Debug, Drop)]
@@ -16,9 +16,9 @@ pub enum Phase {
     Closed(Leaf),
 }
 
-/// A box of the search, and what became of it so far.
+/// A box of the search, and what became of it so far. The box is held while the node is Open or Taken.
 #[derive(Debug, Drop)]
 pub struct Node {
-    pub area: IntervalBox,
+    pub area: NodeBox,
     pub phase: Phase,
 }

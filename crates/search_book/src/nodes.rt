@@ -1,16 +1,28 @@
-ghost use Rattle.std.specs.Prelude.{ℕ, ◌≡◌, ◌≢◌, ◌<◌, ◌≤◌, length, map, MatchOption};
+ghost use Rattle.std.specs.Prelude.{ℕ, ◌≡◌, ◌≢◌, ◌<◌, ◌≤◌, length, map, IfOk, MatchOption};
 ghost use Rattle.search_book.specs.Nodes.{phase_of, HasPhase, with_phase};
 ghost use Rattle.search_book.specs.Events.{half_node, freed};
 
 use crate::node::{Node, Phase};
+use crate::node_box::NodeBox;
 use interval_box::IntervalBox;
+use std::alloc::Global;
+use tqd_base::Memory;
 
-/// Says of a node what became of it.
+/// Says of a node what became of it. The box of one that was split or closed is let go.
 pub(crate) fn mark(nodes: &mut [Node], n: usize, phase: Phase)
     requires { n < length nodes.old }
     ensures { nodes.new ≡ with_phase nodes.old n phase }
 {
-    nodes[n].phase = phase;
+    turn(&mut nodes[n], phase);
+}
+
+fn turn(node: &mut Node, phase: Phase)
+    ensures { node.new ≡ record node.old { phase = phase } }
+{
+    if let Phase::Split { .. } | Phase::Closed(_) = phase {
+        node.area.let_go();
+    }
+    node.phase = phase;
 }
 
 /// The first Open node from a number on.
@@ -45,11 +57,11 @@ fn free(node: &mut Node)
 }
 
 /// The node of a half: Taken where it is kept, else Open.
-pub(crate) fn half(area: IntervalBox, kept: bool) -> Node
-    ensures { result ≡ half_node area kept }
+pub(crate) fn half(alloc: Global, area: IntervalBox, kept: bool) -> Result<Node, Memory>
+    ensures { IfOk result (λ node. node ≡ half_node area kept) }
 {
-    Node {
-        area,
+    Ok(Node {
+        area: NodeBox::hold(alloc, area)?,
         phase: if kept { Phase::Taken } else { Phase::Open },
-    }
+    })
 }

@@ -81,13 +81,19 @@ fn closed(rt: &impl Abort, alloc: Global, book: &mut Book, price: i64) -> Result
     Ok(book.close(0, Leaf::Bound(row)))
 }
 
-/// Splits the first node, which is Taken, at segment 0 of its only supplier.
-fn split(rt: &impl Abort, book: &mut Book, keep_low: bool) -> Result<(u64, u64), Memory> {
-    assert!(rt; book.state(0) == Some(State::Taken));
-    let root = book.area(0);
-    assert!(rt; root.low_of(0) == 0);
-    assert!(rt; 0 < root.high_of(0));
-    book.split(0, 0, 0, keep_low)
+/// Splits a node that is Taken at a segment of its only supplier.
+fn split(
+    rt: &impl Abort,
+    book: &mut Book,
+    cut: (u64, u8),
+    keep_low: bool,
+) -> Result<(u64, u64), Memory> {
+    let (n, at) = cut;
+    assert!(rt; book.state(n) == Some(State::Taken));
+    let area = book.area(n);
+    assert!(rt; area.low_of(0) <= at);
+    assert!(rt; at < area.high_of(0));
+    book.split(n, 0, at, keep_low)
 }
 
 fn taken(rt: &impl Abort, book: &mut Book, n: u64) -> Option<State> {
@@ -113,8 +119,8 @@ enum Call {
     Improve(Improve),
     /// The price of the good in the row of a bound for the first node.
     Close(i64, Close),
-    /// Whether the low half of the first node is kept.
-    Split(bool),
+    /// A node, the segment at which it is split, and whether its low half is kept.
+    Split(u64, u8, bool),
     GiveBack(u64),
     Release,
 }
@@ -126,7 +132,11 @@ fn answers(rt: &impl Abort, alloc: Global, book: &mut Book, call: Call) -> Resul
         Call::Take(n, want) => Ok(taken(rt, book, n) == want),
         Call::Improve(want) => Ok(improved(rt, alloc, book)? == want),
         Call::Close(price, want) => Ok(closed(rt, alloc, book, price)? == want),
-        Call::Split(keep_low) => Ok(split(rt, book, keep_low)? == (1, 2)),
+        Call::Split(n, at, keep_low) => {
+            let count = book.nodes();
+            let halves = (count, count.saturating_add(1));
+            Ok(split(rt, book, (n, at), keep_low)? == halves)
+        }
         Call::GiveBack(n) => {
             given_back(rt, book, n);
             Ok(true)
@@ -189,7 +199,7 @@ fn a_split_keeps_one_half_and_opens_the_other(rt: HostRuntime) -> Result<(), Fai
     let job = steps(&rt, rt.alloc())?;
     let calls = [
         (Call::TakeFirst(Some(0)), (0, 1, 1, None)),
-        (Call::Split(true), (1, 1, 3, None)),
+        (Call::Split(0, 0, true), (1, 1, 3, None)),
         (Call::Take(0, Some(State::Split(1, 2))), (1, 1, 3, None)),
         (Call::GiveBack(1), (2, 0, 3, None)),
         (Call::TakeFirst(Some(1)), (1, 1, 3, None)),
@@ -203,6 +213,23 @@ fn a_split_keeps_one_half_and_opens_the_other(rt: HostRuntime) -> Result<(), Fai
         for at in 0..3 {
             assert!(rt; book.is_taken_at(n, &areas[at]) == (n == 1 && at == 1));
         }
+    }
+    Ok(())
+}
+
+#[test]
+fn a_node_that_is_split_has_its_box_still(rt: HostRuntime) -> Result<(), Fail> {
+    let job = steps(&rt, rt.alloc())?;
+    let calls = [
+        (Call::TakeFirst(Some(0)), (0, 1, 1, None)),
+        (Call::Split(0, 0, false), (1, 1, 3, None)),
+        (Call::Split(2, 1, true), (2, 1, 5, None)),
+    ];
+    let book = walk(&rt, rt.alloc(), &job, calls.as_slice())?;
+    let areas = boxes(&rt, &job);
+    for n in 0..3 {
+        assert!(rt; (n as u64) < book.nodes());
+        assert!(rt; book.area(n as u64) == areas[n]);
     }
     Ok(())
 }

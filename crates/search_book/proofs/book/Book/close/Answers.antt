@@ -3,13 +3,12 @@ use Rattle.interval_box.specs.declared.boxes.IntervalBox.{IntervalBox}
 use Rattle.bound_tree.specs.Kills.{Kills}
 use Rattle.search_book.specs.declared.node.Node.{Node}
 use Rattle.search_book.specs.declared.node.Phase.TheVariants.{Taken, Closed}
-use Rattle.search_book.specs.Nodes.{HasPhase, with_phase}
+use Rattle.search_book.specs.Nodes.{area_of, HasPhase, with_phase}
 use Rattle.search_book.specs.BookState.{BookState, best_cost}
 use Rattle.search_book.specs.Events.{marked, close_node, Happens}
 use Rattle.search_book.specs.Later.{IsLater}
 use Rattle.search_book.specs.Counts.{due_size}
 use Rattle.search_book.specs.Kept.{IsKept}
-use Rattle.search_book.proofs.Marks.{read_is}
 use Rattle.search_book.proofs.Keeps.{vec_marked, kept_closed}
 use Rattle.search_book.proofs.LaterStates.{happens_later}
 use Rattle.search_book.proofs.Dues.{due_falls}
@@ -28,9 +27,9 @@ applies : (c : goal.After-self-2-1) → Happens (was c) (close_node c.args.n c.a
 applies c =
     let s = was c in
     let at = subst (λ (x : BookState). HasPhase x.nodes c.args.n Taken) (sym c.self.view_is) c.requires.taken in
-    let area = ap (λ (x : Node). x.area) (read_is s.nodes c.args.n c.index.result.now at.known c.index.ensures) in
+    let area = c.area-area.ensures.value ∙ ap (λ (x : BookState). area_of x.nodes c.args.n) (sym c.self.view_is) in
     let best = c.best-best.ensures ∙ sym (ap best_cost c.self.view_is) in
-    let kills = subst (λ (b : Option ℕ). Kills s.job c.index.result.now.area b c.args.leaf) best (c.if-not-kills.ensures.0 refl) in
+    let kills = subst (λ (b : Option ℕ). Kills s.job c.area-area.result b c.args.leaf) best (c.if-not-kills.ensures.0 refl) in
     (at, subst (λ (a : IntervalBox). Kills s.job a (best_cost s) c.args.leaf) area kills, refl)
 
 nodes_are : (c : goal.After-self-2-1)

@@ -1,6 +1,7 @@
-use Rattle.std.proofs.Common.{List, sym, subst, ap, refl, ◌∙◌, ◌+◌, ◌≡◌, ◌<◌, not, length, arith}
+use Rattle.std.proofs.Common.{List, sym, subst, ap, refl, ◌∙◌, ◌+◌, ◌≡◌, not, length, arith}
 use Rattle.std.specs.Prelude.{if◌then◌else◌}
 use Rattle.interval_box.specs.declared.boxes.IntervalBox.{IntervalBox}
+use Rattle.interval_box.specs.Ranges.{IsBoxOf}
 use Rattle.interval_box.specs.Halves.{IsProper, low_half, high_half}
 use Rattle.search_book.specs.declared.node.Node.{Node}
 use Rattle.search_book.specs.declared.node.Phase.TheVariants.{Taken, Split}
@@ -10,25 +11,20 @@ use Rattle.search_book.specs.Events.{half_node, divided, split_node}
 use Rattle.search_book.specs.Counts.{due_size}
 use Rattle.search_book.specs.Kept.{IsKept}
 use Rattle.search_book.specs.Taken.{TakenInPlace}
-use Rattle.search_book.proofs.Marks.{read_is}
-use Rattle.search_book.proofs.Keeps.{vec_divided, kept_divided, split_place}
+use Rattle.search_book.proofs.Keeps.{vec_divided, kept_divided, box_place}
 use Rattle.search_book.proofs.Dues.{due_divided}
 use Rattle.search_book.proofs.Takes.{book_takes}
 use Rattle.search_book.proofs.book.Book.split.Goals as goal
 
 pub halves-requires-clause-supplier : goal.halves-requires-clause-supplier
 halves-requires-clause-supplier c =
-    let s : BookState = record { job = c.self.inside.job.now; nodes = c.self.inside.nodes.items; best = c.self.inside.best } in
-    let at = subst (λ (x : BookState). HasPhase x.nodes c.args.n Taken) (sym c.self.view_is) c.requires.taken in
-    let proper = subst (λ (x : BookState). IsProper (area_of x.nodes c.args.n) c.args.i c.args.s) (sym c.self.view_is) c.requires.proper in
-    split_place s c.args.n c.args.i c.args.s c.self.invariant.covered at.known proper
+    box_place c.args.self.now.job (area_of c.args.self.now.nodes c.args.n) c.args.i c.args.s
+    (subst (λ (a : IntervalBox). IsBoxOf c.args.self.now.job a) c.area.ensures.value c.area.ensures.of_job) c.requires.proper
 
 pub overflow_cast-phase : goal.overflow_cast-phase
 overflow_cast-phase c =
-    let s : BookState = record { job = c.self.inside.job.now; nodes = c.self.inside.nodes.items; best = c.self.inside.best } in
-    let at = subst (λ (x : BookState). HasPhase x.nodes c.args.n Taken) (sym c.self.view_is) c.requires.taken in
-    let proper = subst (λ (x : BookState). IsProper (area_of x.nodes c.args.n) c.args.i c.args.s) (sym c.self.view_is) c.requires.proper in
-    let few = split_place s c.args.n c.args.i c.args.s c.self.invariant.covered at.known proper in
+    let few = box_place c.args.self.now.job (area_of c.args.self.now.nodes c.args.n) c.args.i c.args.s
+    (subst (λ (a : IntervalBox). IsBoxOf c.args.self.now.job a) c.area.ensures.value c.area.ensures.of_job) c.requires.proper in
     omega arith
 
 -- the book as it was
@@ -42,21 +38,17 @@ proper : (c : goal.After-self-2-1) → IsProper (area_of (was c).nodes c.args.n)
 proper c = subst (λ (x : BookState). IsProper (area_of x.nodes c.args.n) c.args.i c.args.s) (sym c.self.view_is) c.requires.proper
 
 -- the box that is split
-area_is : (c : goal.After-self-2-1) → c.index.result.now.area ≡ area_of (was c).nodes c.args.n
-area_is c =
-    let same = c.in_ok-reserve.ensures.items in
-    let known = subst (λ (ks : List Node). c.args.n < length ks) (sym same) (taken c).known in
-    ap (λ (x : Node). x.area) (read_is c.reserve.new.self.items c.args.n c.index.result.now known c.index.ensures)
-    ∙ ap (λ (ks : List Node). area_of ks c.args.n) same
+area_is : (c : goal.After-self-2-1) → c.area.result ≡ area_of (was c).nodes c.args.n
+area_is c = c.area.ensures.value ∙ ap (λ (x : BookState). area_of x.nodes c.args.n) (sym c.self.view_is)
 
-low_is : (c : goal.After-self-2-1) → c.half.result ≡ half_node (low_half (area_of (was c).nodes c.args.n) c.args.i c.args.s) c.args.keep_low
+low_is : (c : goal.After-self-2-1) → c.in_ok-low_node.low_node ≡ half_node (low_half (area_of (was c).nodes c.args.n) c.args.i c.args.s) c.args.keep_low
 low_is c =
-    c.half.ensures
+    c.in_ok-low_node.ensures
     ∙ ap (λ (a : IntervalBox). half_node a c.args.keep_low) (c.halves.ensures.low ∙ ap (λ (a : IntervalBox). low_half a c.args.i c.args.s) (area_is c))
 
-high_is : (c : goal.After-self-2-1) → c.half-2.result ≡ half_node (high_half (area_of (was c).nodes c.args.n) c.args.i c.args.s) (not c.args.keep_low)
+high_is : (c : goal.After-self-2-1) → c.in_ok-high_node.high_node ≡ half_node (high_half (area_of (was c).nodes c.args.n) c.args.i c.args.s) (not c.args.keep_low)
 high_is c =
-    c.half-2.ensures
+    c.in_ok-high_node.ensures
     ∙ ap (λ (a : IntervalBox). half_node a (not c.args.keep_low))
     (c.halves.ensures.high ∙ ap (λ (a : IntervalBox). high_half a c.args.i c.args.s) (area_is c))
 
@@ -71,7 +63,7 @@ nodes_are c =
     let xs = c.self.inside.nodes.items in
     let size = number_is c in
     vec_divided xs c.reserve.new.self.items c.deref_mut.result.now c.mark.new.nodes c.push_reserved.new.self.items
-    c.push_reserved-2.new.self.items c.half.result c.half-2.result
+    c.push_reserved-2.new.self.items c.in_ok-low_node.low_node c.in_ok-high_node.high_node
     (half_node (low_half (area_of xs c.args.n) c.args.i c.args.s) c.args.keep_low)
     (half_node (high_half (area_of xs c.args.n) c.args.i c.args.s) (not c.args.keep_low))
     c.reserve.new.self.len c.args.n (Split c.len-low.result (c.len-low.result + 1) c.args.i c.args.s) (Split (length xs) (length xs + 1) c.args.i c.args.s)

@@ -12,13 +12,13 @@ use Rattle.search_book.proofs.Takes.{book_takes}
 use Rattle.search_book.proofs.book.Book.take_open.Goals as goal
 
 -- the book as it was, and as it is now
-abbrev was : goal.After-result-1 → BookState
+abbrev was : goal.After-self-3-1 → BookState
 was c = record { job = c.self.inside.job.now; nodes = c.self.inside.nodes.items; best = c.self.inside.best }
 
-applies : (c : goal.After-result-1) → Happens (was c) (take_node c.args.n) (marked (was c) c.args.n Taken)
+applies : (c : goal.After-self-3-1) → Happens (was c) (take_node c.args.n) (marked (was c) c.args.n Taken)
 applies c = (subst (λ (x : BookState). HasPhase x.nodes c.args.n Open) (sym c.self.view_is) c.requires, refl)
 
-nodes_are : (c : goal.After-result-1)
+nodes_are : (c : goal.After-self-3-1)
     → take c.self.inside.nodes.len (c.mark.new.nodes ++ drop (length c.mark.new.nodes) c.self.inside.nodes.items)
     ≡ with_phase c.self.inside.nodes.items c.args.n Taken
 nodes_are c =
