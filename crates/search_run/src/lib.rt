@@ -15,6 +15,9 @@
 //! and has fewer stages to follow. Whatever `settle` answers, the book is later than before: what was split or closed stays so,
 //! and the best plan costs no more. Without memory a second `settle` goes on from there.
 //!
+//! Whoever works on a box passes a `Gate` before it, by which a caller may see that the work goes on: no clause speaks of
+//! it. `settle_by` and `search_one_by` take one, as `search_many` does.
+//!
 //! `search_many` has workers round one lock, whose value is the book. They find boxes by the tickets of lanes
 //! (`steal_pool`), and see the least cost that any of them published in one word (`best_word`). Tickets and that word are
 //! hints: when a worker takes the lock it knows nothing of the book but what its type keeps, so it tests that the book is
@@ -41,4 +44,4 @@ mod worker;
 mod worths;
 
 pub use many::{Gate, NoGate, Way, search_many};
-pub use search::{search_one, settle};
+pub use search::{search_one, search_one_by, settle, settle_by};

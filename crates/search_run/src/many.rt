@@ -4,7 +4,7 @@ ghost use Rattle.search_run.specs.Opened.{IsLaterThanOpening};
 
 use crate::holds::Hall;
 use crate::kits::{Kit, kits_of};
-use crate::search::{is_later_than_opening, settle};
+use crate::search::{is_later_than_opening, settle_by};
 use crate::worker::work;
 use best_word::BestWord;
 use search_book::Book;
@@ -30,8 +30,12 @@ pub enum Way {
 
 /// What workers pass before they work on a box.
 pub trait Gate {
-    /// A worker, numbered from 0, is about to work on the box of a node. It holds no lock.
-    fn enter(&self, worker: u32, number: u64, way: Way);
+    /// A worker, numbered from 0, is about to work on the box of a node. It knows of a plan of the cost `best`, in
+    /// millionths, or of none. It holds no lock.
+    fn enter(&self, worker: u32, number: u64, way: Way, best: Option<u128>);
+
+    /// No box is left to work on.
+    fn leave(&self);
 }
 
 /// A gate that lets every worker pass.
@@ -39,7 +43,9 @@ pub trait Gate {
 pub struct NoGate;
 
 impl Gate for NoGate {
-    fn enter(&self, _worker: u32, _number: u64, _way: Way) {}
+    fn enter(&self, _worker: u32, _number: u64, _way: Way, _best: Option<u128>) {}
+
+    fn leave(&self) {}
 }
 
 /// A book of the job that has a verdict, found by 1 to 64 workers, each in a thread of its own where one can be started.
@@ -63,7 +69,7 @@ pub fn search_many<'j, R: Threads + Wait + Sync, G: Gate + Sync>(
     let run = |kit: Kit| work(rt, alloc, &hall, gate, kit);
     let _ = thread::map_vec(rt, kits, &run);
     let mut book = book_of(alloc, job, hall.into_book())?;
-    settle(alloc, &mut book)?;
+    settle_by(alloc, &mut book, gate)?;
     is_later_than_opening(job, &book);
     Ok(book)
 }

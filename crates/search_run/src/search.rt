@@ -7,10 +7,10 @@ ghost use Rattle.search_run.specs.Minds.{IsMindOf};
 ghost use Rattle.search_run.specs.Steps.{HasClosed, IsLeft, IsTaskIn};
 
 use crate::commit::{Step, commit};
-use crate::many::Way;
+use crate::many::{Gate, NoGate, Way};
 use crate::mind::Mind;
 use crate::think::think;
-use crate::thought::{Task, entered};
+use crate::thought::{Stage, Task, entered};
 use interval_box::IntervalBox;
 use search_book::{Book, laws};
 use std::alloc::Global;
@@ -24,11 +24,21 @@ pub fn settle(alloc: Global, book: &mut Book) -> Result<(), Memory>
     ensures job { book.new.job ≡ book.old.job }
     ensures later { IsLater book.old book.new }
 {
+    settle_by(alloc, book, &NoGate)
+}
+
+/// Works as [`settle`] does, and passes the gate before each box, as worker 0, and when no box is left.
+pub fn settle_by<G: Gate>(alloc: Global, book: &mut Book, gate: &G) -> Result<(), Memory>
+    ensures settled { OnOk result (IsSettled book.new) }
+    ensures job { book.new.job ≡ book.old.job }
+    ensures later { IsLater book.old book.new }
+{
     let mut mind = Mind::new(alloc, book.job())?;
     book.release_all();
     while let Some((n, area)) = book.take_first() {
-        work(alloc, book, &mut mind, n, &area)?;
+        work(alloc, book, &mut mind, gate, n, &area)?;
     }
+    gate.leave();
     laws::states_settle_where_none_waits();
     Ok(())
 }
@@ -39,8 +49,17 @@ pub fn search_one<'j>(alloc: Global, job: &'j Job) -> Result<Book<'j>, Memory>
     ensures job { IfOk result (λ book. book.job ≡ job.now) }
     ensures later { IfOk result (λ book. IsLaterThanOpening job.now book) }
 {
+    search_one_by(alloc, job, &NoGate)
+}
+
+/// Finds a book as [`search_one`] does, and passes the gate before each box, as worker 0, and when no box is left.
+pub fn search_one_by<'j, G: Gate>(alloc: Global, job: &'j Job, gate: &G) -> Result<Book<'j>, Memory>
+    ensures settled { IfOk result (λ book. IsSettled book) }
+    ensures job { IfOk result (λ book. book.job ≡ job.now) }
+    ensures later { IfOk result (λ book. IsLaterThanOpening job.now book) }
+{
     let mut book = Book::open(alloc, job)?;
-    settle(alloc, &mut book)?;
+    settle_by(alloc, &mut book, gate)?;
     is_later_than_opening(job, &book);
     Ok(book)
 }
@@ -54,10 +73,11 @@ pub(crate) fn is_later_than_opening(_job: &Job, book: &Book)
 }
 
 /// Works on a Taken box, and on what is kept of it, until nothing is left of it.
-fn work(
+fn work<G: Gate>(
     alloc: Global,
     book: &mut Book,
     mind: &mut Mind,
+    gate: &G,
     n: u64,
     area: &IntervalBox,
 ) -> Result<(), Memory>
@@ -68,22 +88,33 @@ fn work(
     ensures mind { IsMindOf book.old.job mind.new }
     ensures later { IsLater book.old book.new }
 {
-    let mut left = turn(alloc, book, mind, entered(n, area, Way::First))?;
+    let mut left = turn(alloc, book, mind, gate, entered(n, area, Way::First))?;
     while let Some(task) = left {
-        left = turn(alloc, book, mind, task)?;
+        left = turn(alloc, book, mind, gate, task)?;
     }
     Ok(())
 }
 
-/// Works on a Taken box for one stage: closes it, splits it and keeps a half, or goes on with what is left of it.
-fn turn(alloc: Global, book: &mut Book, mind: &mut Mind, task: Task) -> Result<Option<Task>, Memory>
+/// Works on a Taken box for one stage: closes it, splits it and keeps a half, or goes on with what is left of it. The gate
+/// is passed at the first stage.
+fn turn<G: Gate>(
+    alloc: Global,
+    book: &mut Book,
+    mind: &mut Mind,
+    gate: &G,
+    task: Task,
+) -> Result<Option<Task>, Memory>
     requires task { IsTaskIn book.old task }
     requires mind { IsMindOf book.old.job mind.old }
     ensures left { IfOk result (IsLeft book.old task book.new) }
     ensures mind { IsMindOf book.old.job mind.new }
     ensures later { IsLater book.old book.new }
 {
-    let thought = think(alloc, book.job(), mind, book.best(), &task)?;
+    let best = book.best();
+    if task.stage == Stage::Enter {
+        gate.enter(0, task.number, task.way, best);
+    }
+    let thought = think(alloc, book.job(), mind, best, &task)?;
     match commit(book, task, thought)? {
         Step::Closed => Ok(None),
         Step::Goes(next) => Ok(Some(next)),

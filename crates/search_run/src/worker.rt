@@ -90,10 +90,10 @@ fn turn<R: Wait, G: Gate>(
     ensures next { IsGoodFor hall.now.job.now result }
     ensures mind { IsMindOf hall.now.job.now mind.new }
 {
-    if task.stage == Stage::Enter {
-        gate.enter(kit.number, task.number, task.way);
-    }
     let best = kit.hint.see();
+    if task.stage == Stage::Enter {
+        gate.enter(kit.number, task.number, task.way, best);
+    }
     let Ok(thought) = think(alloc, hall.job, mind, best, &task) else {
         hall.give_back(rt, task.number, &task.area);
         return Next::Over;
