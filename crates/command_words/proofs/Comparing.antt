@@ -1,6 +1,6 @@
 -- What words of `scenarios` ask for, from their parts.
 use Rattle.std.proofs.Common.{ℕ, ◌≡◌, List, [], ◌∷◌, refl, ap}
-use Rattle.std.specs.Prelude.{map, codes, Option}
+use Rattle.std.specs.Prelude.{map, codes}
 use Rattle.tqd_base.specs.World.{Name}
 use Rattle.command_words.specs.Forms.{file_of, files_in, option_in}
 use Rattle.command_words.specs.Words.{FilesNamed, ToCompare, compared, files_of, workers_of}

@@ -1,6 +1,6 @@
 -- The numbers of a command are in their ranges, and words of a form are a command.
 use Rattle.std.proofs.Common.{◌≡◌, Bool, true, false, List, [], ◌∷◌, Option, None, Some, arith, refl, sym, ◌∙◌, subst, cond}
-use Rattle.std.specs.Prelude.{◌||◌, ◌&&◌, nat_le, is_some, length, map, take, drop, option_and_then}
+use Rattle.std.specs.Prelude.{◌||◌, ◌&&◌, nat_le, is_some, length, map, option_and_then}
 use Rattle.std.specs.List.{find, list_all, list_any}
 use Rattle.std.specs.Option.{option_map}
 use Rattle.std.proofs.lemmas.List.{length-map}
@@ -13,11 +13,11 @@ use Rattle.command_words.specs.declared.form.Field.TheVariants.{File, FileOrNone
 use Rattle.command_words.specs.declared.form.Behind.{Behind}
 use Rattle.command_words.specs.declared.form.Behind.TheVariants.{Nothing, Workers, Files}
 use Rattle.command_words.specs.declared.form.Verb.{Verb}
-use Rattle.command_words.specs.declared.form.Verb.TheVariants.{Solve, Check, Needs, Make, Scenarios, Winners, BreakEven}
+use Rattle.command_words.specs.declared.form.Verb.TheVariants.{Solve, Check, Needs, Make, Requote, Scenarios, Winners, BreakEven}
 use Rattle.command_words.specs.Text.{same}
 use Rattle.command_words.specs.Forms.{Form, are_files, file_of, files_in, forms, is_behind, is_of, is_option, option_in, stand_for, stands_for, verb_of}
-use Rattle.command_words.specs.Words.{Asked, ToBreakEven, ToCheck, ToCompare, ToMake, ToNeed, ToSolve, ToTabulate, asked_by, command_of, compared, workers_of}
-use Rattle.command_words.proofs.FormLemmas.{IsBetween, as_many, both, enough, number_between, stand_at_end, stand_behind, stands_first}
+use Rattle.command_words.specs.Words.{Asked, ToBreakEven, ToCheck, ToCompare, ToMake, ToNeed, ToRequote, ToSolve, ToTabulate, asked_by, command_of, compared, workers_of}
+use Rattle.command_words.proofs.FormLemmas.{IsBetween, as_many, both, enough, number_between, stand_behind, stands_first}
 
 -- the numbers of a command: the workers, or the goods and the suppliers
 abbrev pub IsRanged : Asked → Type 0
@@ -25,6 +25,7 @@ IsRanged (ToSolve files tree workers) = IsBetween 1 WORKERS_MAX workers
 IsRanged (ToCheck files tree) = Unit {0}
 IsRanged (ToNeed orders bill) = Unit {0}
 IsRanged (ToMake seed goods suppliers) = IsBetween 1 GOODS_MAX goods × IsBetween 1 SUPPLIERS_MAX suppliers
+IsRanged (ToRequote files old tree) = Unit {0}
 IsRanged (ToCompare files terms workers) = IsBetween 1 SCENARIOS_MAX (length terms) × IsBetween 1 WORKERS_MAX workers
 IsRanged (ToTabulate files workers) = IsBetween 1 WORKERS_MAX workers
 IsRanged (ToBreakEven files supplier) = Unit {0}
@@ -95,6 +96,11 @@ make_asks first (seed ∷ goods ∷ suppliers ∷ []) e =
     )
 make_asks first _ e = absurd (omega (arith, as_many _ _ e))
 
+requote_asks : AsksRanged Requote Nothing (File ∷ FileOrNone ∷ File ∷ FileOrNone ∷ File ∷ FileOrNone ∷ [])
+unfolding asked_by
+requote_asks first (orders ∷ bill ∷ offers ∷ terms ∷ old ∷ tree ∷ []) e = tt
+requote_asks first _ e = absurd (omega (arith, as_many _ _ e))
+
 scenarios_asks : AsksRanged Scenarios (Files SCENARIOS_MAX) (File ∷ FileOrNone ∷ File ∷ [])
 unfolding asked_by compared
 scenarios_asks first (orders ∷ bill ∷ offers ∷ words) e =
@@ -137,8 +143,11 @@ forms_ask = (
       (
         asks_of _ make_asks,
         (
-          asks_of _ scenarios_asks,
-          (asks_of _ winners_asks, (asks_of _ break_even_asks, tt)),
+          asks_of _ requote_asks,
+          (
+            asks_of _ scenarios_asks,
+            (asks_of _ winners_asks, (asks_of _ break_even_asks, tt)),
+          ),
         ),
       ),
     ),

@@ -1,5 +1,5 @@
 -- Where the option begins in words of any kind.
-use Rattle.std.proofs.Common.{ℕ, ◌≡◌, ◌≤◌, ◌-◌, Bool, true, false, List, length, arith, refl, sym, ◌∙◌, ap}
+use Rattle.std.proofs.Common.{ℕ, ◌≡◌, ◌≤◌, ◌-◌, Bool, true, false, List, length, arith, refl}
 use Rattle.std.specs.Prelude.{map, take, drop, if◌then◌else◌}
 use Rattle.std.proofs.lemmas.List.{drop-map, length-map, take-map}
 use Rattle.tqd_base.specs.World.{Name}

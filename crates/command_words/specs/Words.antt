@@ -4,9 +4,9 @@ use Rattle.std.specs.Option.{option_copied}
 use Rattle.tqd_base.specs.World.{Name}
 use Rattle.command_words.specs.declared.words.JobFiles.{JobFiles}
 use Rattle.command_words.specs.declared.words.Command.{Command}
-use Rattle.command_words.specs.declared.words.Command.TheVariants.{Solve, Check, Needs, Make, Scenarios, Winners, BreakEven}
+use Rattle.command_words.specs.declared.words.Command.TheVariants.{Solve, Check, Needs, Make, Requote, Scenarios, Winners, BreakEven}
 use Rattle.command_words.specs.declared.form.Verb.{Verb}
-use Rattle.command_words.specs.declared.form.Verb.TheVariants.{Solve as OfSolve, Check as OfCheck, Needs as OfNeeds, Make as OfMake, Scenarios as OfScenarios, Winners as OfWinners, BreakEven as OfBreakEven}
+use Rattle.command_words.specs.declared.form.Verb.TheVariants.{Solve as OfSolve, Check as OfCheck, Needs as OfNeeds, Make as OfMake, Requote as OfRequote, Scenarios as OfScenarios, Winners as OfWinners, BreakEven as OfBreakEven}
 use Rattle.command_words.specs.Forms.{file_of, files_in, number_of, option_in, verb_of}
 
 -- the files that state a job
@@ -17,14 +17,16 @@ pub record FilesNamed : Type 0 where
   pub terms : Option Name
 
 -- to solve a job, with a tree or without, by so many workers; to check a tree against a job; to list the needs of
--- orders and a bill; to solve a made job with this seed and so many goods and suppliers; to compare the least costs under
--- each of these terms, by so many workers; to tabulate least costs by the greatest number of winners, by so many workers; to
--- find the least cut of a supplier's prices that pays
+-- orders and a bill; to solve a made job with this seed and so many goods and suppliers; to solve a job from an old
+-- tree, with a tree or without; to compare the least costs under each of these terms, by so many workers; to tabulate
+-- least costs by the greatest number of winners, by so many workers; to find the least cut of a supplier's prices that
+-- pays
 pub data Asked : Type 0 where
   ToSolve : FilesNamed → Option Name → ℕ → Asked
   ToCheck : FilesNamed → Name → Asked
   ToNeed : Name → Option Name → Asked
   ToMake : ℕ → ℕ → ℕ → Asked
+  ToRequote : FilesNamed → Name → Option Name → Asked
   ToCompare : FilesNamed → List (Option Name) → ℕ → Asked
   ToTabulate : FilesNamed → ℕ → Asked
   ToBreakEven : FilesNamed → Name → Asked
@@ -53,6 +55,8 @@ asked_by OfCheck (first ∷ orders ∷ bill ∷ offers ∷ terms ∷ tree ∷ []
 asked_by OfNeeds (first ∷ orders ∷ bill ∷ []) = Some (ToNeed orders (file_of bill))
 asked_by OfMake (first ∷ seed ∷ goods ∷ suppliers ∷ []) =
     Some (ToMake (number_of seed) (number_of goods) (number_of suppliers))
+asked_by OfRequote (first ∷ orders ∷ bill ∷ offers ∷ terms ∷ old ∷ tree ∷ []) =
+    Some (ToRequote (files_of orders bill offers terms) old (file_of tree))
 asked_by OfScenarios (first ∷ orders ∷ bill ∷ offers ∷ words) = Some (compared orders bill offers words)
 asked_by OfWinners (first ∷ orders ∷ bill ∷ offers ∷ terms ∷ option) =
     Some (ToTabulate (files_of orders bill offers terms) (workers_of option))
@@ -80,6 +84,7 @@ asked (Solve files tree workers) = ToSolve (files_named files) (option_copied tr
 asked (Check files tree) = ToCheck (files_named files) tree.now
 asked (Needs orders bill) = ToNeed orders.now (option_copied bill)
 asked (Make seed goods suppliers) = ToMake seed goods suppliers
+asked (Requote files old tree) = ToRequote (files_named files) old.now (option_copied tree)
 asked (Scenarios files terms workers) =
     ToCompare (files_named files) (map (λ word. file_of (string_bytes word)) terms.now) workers
 asked (Winners files workers) = ToTabulate (files_named files) workers
@@ -101,6 +106,10 @@ pub record IsNeeds (words : List Name) (orders : Name) (bill : Option Name) : Ty
 -- make SEED GOODS SUPPLIERS
 pub record IsMake (words : List Name) (seed goods suppliers : ℕ) : Type 0 where
   pub words_are : command_of words ≡ Some (ToMake seed goods suppliers)
+
+-- requote ORDERS BILL OFFERS TERMS OLD TREE
+pub record IsRequote (words : List Name) (files : FilesNamed) (old : Name) (tree : Option Name) : Type 0 where
+  pub words_are : command_of words ≡ Some (ToRequote files old tree)
 
 -- scenarios ORDERS BILL OFFERS TERMS.., by any number of workers
 pub record IsScenarios (words : List Name) (files : FilesNamed) (terms : List (Option Name)) : Type 0 where
@@ -131,6 +140,7 @@ IsReadBy (ToSolve files tree workers) name = IsFileOf files name
 IsReadBy (ToCheck files tree) name = IsFileOf files name ⊎ (name ≡ tree)
 IsReadBy (ToNeed orders bill) name = (name ≡ orders) ⊎ (Some name ≡ bill)
 IsReadBy (ToMake seed goods suppliers) name = ⊥
+IsReadBy (ToRequote files old tree) name = IsFileOf files name ⊎ (name ≡ old)
 IsReadBy (ToCompare files terms workers) name = IsFileOf files name ⊎ Contains terms (Some name)
 IsReadBy (ToTabulate files workers) name = IsFileOf files name
 IsReadBy (ToBreakEven files supplier) name = IsFileOf files name

@@ -41,6 +41,7 @@ pub enum Verb {
     Check,
     Needs,
     Make,
+    Requote,
     Scenarios,
     Winners,
     BreakEven,
@@ -51,7 +52,7 @@ pub enum Verb {
 pub type Form = (Verb, &'static str, &'static [Field], Behind, &'static str);
 
 /// Every form of words.
-pub const FORMS: [Form; 7] = [
+pub const FORMS: [Form; 8] = [
     (
         Verb::Solve,
         "solve",
@@ -95,6 +96,20 @@ pub const FORMS: [Form; 7] = [
         ],
         Behind::Nothing,
         "SEED GOODS SUPPLIERS",
+    ),
+    (
+        Verb::Requote,
+        "requote",
+        &[
+            Field::File,
+            Field::FileOrNone,
+            Field::File,
+            Field::FileOrNone,
+            Field::File,
+            Field::FileOrNone,
+        ],
+        Behind::Nothing,
+        "ORDERS BILL OFFERS TERMS OLD TREE",
     ),
     (
         Verb::Scenarios,

@@ -40,6 +40,13 @@ pub enum Command<'a> {
         goods: u64,
         suppliers: u64,
     },
+    /// A least purchase, sought from the file of an old tree, with the file that the tree goes to, if any. Both may be
+    /// the same file.
+    Requote {
+        files: JobFiles<'a>,
+        old: &'a str,
+        tree: Option<&'a str>,
+    },
     /// The least cost for each of 1 to 16 files of terms, by 1 to 64 workers. `files` has no terms; each word of `terms` is
     /// the name of a file or `-`.
     Scenarios {
@@ -121,6 +128,11 @@ fn command_by(verb: Verb, words: &[String]) -> Option<Command<'_>>
             goods: number(goods),
             suppliers: number(suppliers),
         }),
+        (Verb::Requote, [_, orders, bill, offers, terms, old, tree]) => Some(Command::Requote {
+            files: job_files(orders, bill, offers, terms),
+            old,
+            tree: file(tree),
+        }),
         (Verb::Scenarios, [_, orders, bill, offers, words @ ..]) => {
             Some(compared(orders, bill, offers, words))
         }
@@ -139,10 +151,11 @@ fn command_by(verb: Verb, words: &[String]) -> Option<Command<'_>>
 /// The command that the words are, or None where they are of none of the forms.
 ///
 /// Words are read by position: `solve ORDERS BILL OFFERS TERMS TREE`, with one worker or with `--workers N` behind it;
-/// `check ORDERS BILL OFFERS TERMS TREE`; `needs ORDERS BILL`; `make SEED GOODS SUPPLIERS`; `scenarios ORDERS BILL OFFERS`
-/// with 1 to 16 TERMS behind it, and `winners ORDERS BILL OFFERS TERMS`, both with workers as `solve`; `break-even ORDERS
-/// BILL OFFERS TERMS SUPPLIER`. A file is any word but the empty one, and `-` stands for no file, where there may be none:
-/// as BILL, as TERMS, and as the TREE of `solve`. A supplier is any word but the empty one.
+/// `check ORDERS BILL OFFERS TERMS TREE`; `needs ORDERS BILL`; `make SEED GOODS SUPPLIERS`; `requote ORDERS BILL OFFERS
+/// TERMS OLD TREE`; `scenarios ORDERS BILL OFFERS` with 1 to 16 TERMS behind it, and `winners ORDERS BILL OFFERS
+/// TERMS`, both with workers as `solve`; `break-even ORDERS BILL OFFERS TERMS SUPPLIER`. A file is any word but the
+/// empty one, and `-` stands for no file, where there may be none: as BILL, as TERMS, and as the TREE of `solve` and
+/// `requote`. A supplier is any word but the empty one.
 #[tactic(auto, unfolding(crate::specs::Words::command_of))]
 pub fn read_words(words: &[String]) -> Option<Command<'_>>
     ensures { option_map asked result ≡ command_of (map string_bytes words.now) }
