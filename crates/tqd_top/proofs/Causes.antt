@@ -10,9 +10,9 @@ use Rattle.tqd_top.specs.declared.answer.Answer.TheVariants.{Solved, Infeasible,
 use Rattle.tqd_top.specs.declared.answer.Reply.{Reply}
 use Rattle.tqd_top.specs.declared.reading.OffersRead.{OffersRead}
 use Rattle.tqd_top.specs.declared.answer.NoReply.TheVariants.{Tree as NoTree, Memory as WantsMemory}
-use Rattle.command_words.specs.Words.{Asked, FilesNamed, ToBreakEven, ToCheck, ToCompare, ToMake, ToNeed, ToSolve, ToTabulate}
+use Rattle.command_words.specs.Words.{Asked, FilesNamed, ToBreakEven, ToCheck, ToCompare, ToMake, ToNeed, ToRequote, ToSolve, ToTabulate}
 use Rattle.tqd_top.specs.Reads.{FailsAt}
-use Rattle.tqd_top.specs.Unread.{FailsAtGiven, IsUnread, IsUnreadBill, IsUnreadScenarios, IsUnreadTerms, IsUnreadWithTree, IsUnreadBy}
+use Rattle.tqd_top.specs.Unread.{FailsAtGiven, IsUnread, IsUnreadBill, IsUnreadScenarios, IsUnreadTerms, IsUnreadWithOld, IsUnreadWithTree, IsUnreadBy}
 use Rattle.tqd_top.specs.SavedTree.{IsCutShort, saved}
 use Rattle.tqd_top.specs.Causes.{FailsOnlyInputs}
 use Rattle.tqd_top.specs.Output.{IsWant, IsWriteFault, IsCutOff, IsReply}
@@ -81,6 +81,16 @@ tree_still a old mid new files tree TreeFile falls kept f = (f.0, f.1, fails_sti
 tree_still a old mid new files tree Old falls kept f = f
 tree_still a old mid new files tree (Scenario at) falls kept f = f
 
+old_still : (a : Bool) (old mid new : State) (files : FilesNamed) (name : Name) (file : InputFile) → NeverFall mid.faults new.faults → new.failed_last ≡ mid.failed_last
+    → IsUnreadWithOld a old mid files name file → IsUnreadWithOld a old new files name file
+old_still a old mid new files name Orders falls kept f = files_still a old mid new files Orders falls kept f
+old_still a old mid new files name Bill falls kept f = files_still a old mid new files Bill falls kept f
+old_still a old mid new files name Offers falls kept f = files_still a old mid new files Offers falls kept f
+old_still a old mid new files name Terms falls kept f = files_still a old mid new files Terms falls kept f
+old_still a old mid new files name TreeFile falls kept f = f
+old_still a old mid new files name Old falls kept f = (f.0, f.1, fails_still old mid new name falls kept f.2)
+old_still a old mid new files name (Scenario at) falls kept f = f
+
 terms_still : (a : Bool) (old mid new : State) (read : OffersRead) (terms : List (Option Name)) (file : InputFile) → NeverFall mid.faults new.faults → new.failed_last ≡ mid.failed_last
     → IsUnreadTerms a old mid read terms file → IsUnreadTerms a old new read terms file
 terms_still a old mid new read terms file falls kept f =
@@ -102,6 +112,7 @@ unread_still a old mid new (ToSolve files tree workers) file falls kept f = file
 unread_still a old mid new (ToCheck files tree) file falls kept f = tree_still a old mid new files tree file falls kept f
 unread_still a old mid new (ToNeed orders bill) file falls kept f = bill_still a old mid new orders bill file falls kept f
 unread_still a old mid new (ToMake seed goods suppliers) file falls kept f = f
+unread_still a old mid new (ToRequote files name tree) file falls kept f = old_still a old mid new files name file falls kept f
 unread_still a old mid new (ToCompare files terms workers) file falls kept f = scenarios_still a old mid new files terms file falls kept f
 unread_still a old mid new (ToTabulate files workers) file falls kept f = files_still a old mid new files file falls kept f
 unread_still a old mid new (ToBreakEven files supplier) file falls kept f = files_still a old mid new files file falls kept f

@@ -1,7 +1,8 @@
 -- What an answer with its cause says of the command that the words are, where no count of faults rose.
-use Rattle.std.proofs.Common.{◌≡◌, Bool, List, Option, Some, subst, inl, inr}
+use Rattle.std.proofs.Common.{◌≡◌, Bool, List, Option, None, Some, subst, inl, inr}
 use Rattle.std.specs.Prelude.{Ok}
 use Rattle.tqd_base.specs.World.{World, State, Name, Bytes, Rose}
+use Rattle.tqd_instance.specs.declared.job.Job.{Job}
 use Rattle.tqd_instance.specs.declared.plan.Plan.{Plan}
 use Rattle.tqd_instance.specs.Plan.{units}
 use Rattle.tqd_instance.specs.Least.{Least, HasNoPurchase}
@@ -12,10 +13,11 @@ use Rattle.tqd_top.specs.declared.answer.Target.TheVariants.{Tree, Out}
 use Rattle.tqd_top.specs.declared.answer.Answer.{Answer}
 use Rattle.tqd_top.specs.declared.answer.Answer.TheVariants.{Solved, Infeasible, Accepted, AcceptedNone, Rejected, Listed, Words, BadInput, ReadFault, WriteFault, Memory}
 use Rattle.tqd_top.specs.declared.reading.JobRead.{JobRead}
-use Rattle.command_words.specs.Words.{Asked, FilesNamed, IsNoForm, ToBreakEven, ToCheck, ToCompare, ToMake, ToNeed, ToSolve, ToTabulate, command_of}
+use Rattle.command_words.specs.Words.{Asked, FilesNamed, IsNoForm, ToBreakEven, ToCheck, ToCompare, ToMake, ToNeed, ToRequote, ToSolve, ToTabulate, command_of}
 use Rattle.tqd_top.specs.JobOf.{IsJobOutcome}
+use Rattle.tqd_top.specs.Requotes.{IsOldText, Seeks}
 use Rattle.tqd_top.specs.Shows.{Shows, VerdictAnswer}
-use Rattle.tqd_top.specs.Unread.{IsUnread, IsUnreadBill, IsUnreadScenarios, IsUnreadWithTree, IsUnreadBy}
+use Rattle.tqd_top.specs.Unread.{IsUnread, IsUnreadBill, IsUnreadScenarios, IsUnreadWithOld, IsUnreadWithTree, IsUnreadBy}
 use Rattle.tqd_top.specs.Causes.{IsChecked, IsFaultOf}
 use Rattle.tqd_top.specs.BreakEven.{IsCutAnswer}
 use Rattle.tqd_top.specs.Listed.{IsListedBy}
@@ -57,6 +59,15 @@ tree_rose a old new files tree TreeFile f = f.2.rose
 tree_rose a old new files tree Old f = absurd f
 tree_rose a old new files tree (Scenario at) f = absurd f
 
+old_rose : (a : Bool) (old new : State) (files : FilesNamed) (name : Name) (file : InputFile) → IsUnreadWithOld a old new files name file → Rose old.faults.reading new.faults.reading
+old_rose a old new files name Orders f = files_rose a old new files Orders f
+old_rose a old new files name Bill f = files_rose a old new files Bill f
+old_rose a old new files name Offers f = files_rose a old new files Offers f
+old_rose a old new files name Terms f = files_rose a old new files Terms f
+old_rose a old new files name TreeFile f = absurd f
+old_rose a old new files name Old f = f.2.rose
+old_rose a old new files name (Scenario at) f = absurd f
+
 scenarios_rose : (a : Bool) (old new : State) (files : FilesNamed) (terms : List (Option Name)) (file : InputFile) → IsUnreadScenarios a old new files terms file
     → Rose old.faults.reading new.faults.reading
 scenarios_rose a old new files terms Orders f = files_rose a old new files Orders f
@@ -72,18 +83,29 @@ unread_rose a old new (ToSolve files tree workers) file f = files_rose a old new
 unread_rose a old new (ToCheck files tree) file f = tree_rose a old new files tree file f
 unread_rose a old new (ToNeed orders bill) file f = bill_rose a old new orders bill file f
 unread_rose a old new (ToMake seed goods suppliers) file f = absurd f
+unread_rose a old new (ToRequote files name tree) file f = old_rose a old new files name file f
 unread_rose a old new (ToCompare files terms workers) file f = scenarios_rose a old new files terms file f
 unread_rose a old new (ToTabulate files workers) file f = files_rose a old new files file f
 unread_rose a old new (ToBreakEven files supplier) file f = files_rose a old new files file f
 
+-- what is said of the job that the files of a `requote` state, whose old tree is not too long
+pub record IsRequoted (a : Bool) (w : World) (files : FilesNamed) (name : Name) (Says : Job → Type 0) : Type 0 where
+  pub read : JobRead
+  pub stated : IsJobOutcome a w files (Ok read)
+  pub says : Says read.job
+  pub text : Bytes
+  pub is_old : IsOldText a w name text
+
 -- a least purchase of the job that the files of the command state
 abbrev pub IsSolvedBy : Bool → World → Asked → Plan → Type 0
 IsSolvedBy a w (ToSolve files tree workers) plan = (read : JobRead) × IsJobOutcome a w files (Ok read) × Least read.job (units plan)
+IsSolvedBy a w (ToRequote files name tree) plan = IsRequoted a w files name (λ job. Least job (units plan))
 IsSolvedBy a w _ plan = ⊥
 
 -- or that no purchase of it is feasible
 abbrev pub IsInfeasibleBy : Bool → World → Asked → Type 0
 IsInfeasibleBy a w (ToSolve files tree workers) = (read : JobRead) × IsJobOutcome a w files (Ok read) × HasNoPurchase read.job
+IsInfeasibleBy a w (ToRequote files name tree) = IsRequoted a w files name HasNoPurchase
 IsInfeasibleBy a w (ToBreakEven files supplier) = (text : Bytes) × IsCutAnswer a w files supplier Infeasible text
 IsInfeasibleBy a w _ = ⊥
 
@@ -118,15 +140,34 @@ shown_by a w words command answer text are c =
     subst (λ (x : Asked). IsShownBy a w x answer) (same_command words (ToCheck c.files c.tree) command c.is_check.words_are are)
     (record { read = c.read; stated = c.stated; shown = c.shown; shows = c.shows; text = text; answers = c.answers })
 
+-- words that ask for a least purchase are a command
+pub seeks_some : (a : Bool) (w : World) (words : List Name) (files : FilesNamed) (tree : Option Name) (from : Option Bytes) → Seeks a w words files tree from → IsNoForm words → ⊥
+seeks_some a w words files tree None s none = not_none words _ s.words_are none
+seeks_some a w words files tree (Some text) s none = not_none words _ s.1.words_are none
+
+solved_by : (a : Bool) (w : World) (words : List Name) (command : Asked) (files : FilesNamed) (tree : Option Name) (from : Option Bytes) (read : JobRead) (plan : Plan)
+    → command_of words ≡ Some command → Seeks a w words files tree from → IsJobOutcome a w files (Ok read) → Least read.job (units plan) → IsSolvedBy a w command plan
+solved_by a w words command files tree None read plan are s stated least =
+    subst (λ (x : Asked). IsSolvedBy a w x plan) (same_command words (ToSolve files tree s.workers) command s.words_are are) (read, stated, least)
+solved_by a w words command files tree (Some text) read plan are s stated least =
+    subst (λ (x : Asked). IsSolvedBy a w x plan) (same_command words (ToRequote files s.0 tree) command s.1.words_are are)
+    (record { read = read; stated = stated; says = least; text = text; is_old = s.2 })
+
+infeasible_by : (a : Bool) (w : World) (words : List Name) (command : Asked) (files : FilesNamed) (tree : Option Name) (from : Option Bytes) (read : JobRead)
+    → command_of words ≡ Some command → Seeks a w words files tree from → IsJobOutcome a w files (Ok read) → HasNoPurchase read.job → IsInfeasibleBy a w command
+infeasible_by a w words command files tree None read are s stated none =
+    subst (IsInfeasibleBy a w) (same_command words (ToSolve files tree s.workers) command s.words_are are) (read, stated, none)
+infeasible_by a w words command files tree (Some text) read are s stated none =
+    subst (IsInfeasibleBy a w) (same_command words (ToRequote files s.0 tree) command s.1.words_are are)
+    (record { read = read; stated = stated; says = none; text = text; is_old = s.2 })
+
 pub means : (a : Bool) (old new : State) (words : List Name) (command : Asked) (answer : Answer) → command_of words ≡ Some command → IsFaultless old new → HasCause a old new words answer
     → Means a old.world command answer
 means a old new words command (Solved plan amount) are f c =
     let s = c.reply in
-    subst (λ (x : Asked). IsSolvedBy a old.world x plan) (same_command words (ToSolve s.files s.tree s.is_solve.workers) command s.is_solve.words_are are)
-    (s.read, s.stated, s.solved.solves.0.least)
+    solved_by a old.world words command s.files s.tree s.from s.read plan are s.seeks s.stated s.solved.solves.0.least
 means a old new words command Infeasible are f c = elim c.reply [
-  | inl s ↦ subst (IsInfeasibleBy a old.world) (same_command words (ToSolve s.files s.tree s.is_solve.workers) command s.is_solve.words_are are)
-      (s.read, s.stated, s.solved.solves.0)
+  | inl s ↦ infeasible_by a old.world words command s.files s.tree s.from s.read are s.seeks s.stated s.solved.solves.0
   | inr cut ↦ subst (IsInfeasibleBy a old.world) (same_command words (ToBreakEven cut.1.files cut.1.supplier) command cut.1.is_break_even.words_are are)
       (c.text, cut.1.found)
 ]

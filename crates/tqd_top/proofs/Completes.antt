@@ -1,8 +1,10 @@
 -- Which answers come where no count of faults rises, and where the words are of no form.
-use Rattle.std.proofs.Common.{ℕ, ◌≡◌, Bool, List, [], Option, None, Some, refl, sym, ◌∙◌, ap, subst, inl, inr}
+use Rattle.std.proofs.Common.{ℕ, ◌≡◌, ◌<◌, ◌≤◌, Bool, List, [], length, Option, None, Some, refl, sym, ◌∙◌, ap, subst, inl, inr}
 use Rattle.std.specs.Prelude.{Ok, Err, IsSome, IfSome, unwrap_or}
 use Rattle.tqd_base.specs.World.{World, State, Name, Bytes, bytes_at}
 use Rattle.tqd_instance.specs.declared.job.Job.{Job}
+use Rattle.tqd_instance.specs.Plan.{units}
+use Rattle.tqd_instance.specs.Least.{Least, HasNoPurchase}
 use Rattle.tree_checker.specs.declared.rejection.Verdict.{Verdict}
 use Rattle.tree_checker.specs.Verdict.{verdict}
 use Rattle.tree_checker.specs.CheckFrom.{IsTooLong}
@@ -11,14 +13,16 @@ use Rattle.tqd_top.specs.declared.answer.Answer.{Answer}
 use Rattle.tqd_top.specs.declared.answer.Answer.TheVariants.{Solved, Infeasible, Accepted, AcceptedNone, Rejected, Listed, Words, BadInput, ReadFault, WriteFault, Memory}
 use Rattle.tqd_top.specs.declared.reading.NeedsRead.{NeedsRead}
 use Rattle.tqd_top.specs.declared.reading.JobRead.{JobRead}
-use Rattle.command_words.specs.Words.{FilesNamed, IsNoForm, ToBreakEven, ToCheck, ToCompare, ToMake, ToNeed, ToSolve, ToTabulate}
+use Rattle.command_words.specs.Words.{FilesNamed, IsNoForm, ToBreakEven, ToCheck, ToCompare, ToMake, ToNeed, ToRequote, ToSolve, ToTabulate}
 use Rattle.tqd_top.specs.JobOf.{JobOf, NeedsOf, Outcome, FaultLine}
 use Rattle.tqd_top.specs.Scenarios.{ScenariosOf}
+use Rattle.tqd_top.specs.Requotes.{IsOldText}
+use Rattle.requote.specs.declared.replanting.TheConstants.{OLD_MAX}
 use Rattle.tqd_top.specs.Reads.{ReadsAs}
 use Rattle.tqd_top.specs.Shows.{Shows}
-use Rattle.tqd_top.specs.Complete.{IsAnswerToCheck, IsAnswerToCompare, IsAnswerToCut, IsAnswerToMake, IsAnswerToNeeds, IsAnswerToNoForm, IsAnswerToSolve, IsAnswerToTable, IsAnswerToText}
+use Rattle.tqd_top.specs.Complete.{IsAnswerToCheck, IsAnswerToCompare, IsAnswerToCut, IsAnswerToMake, IsAnswerToNeeds, IsAnswerToNoForm, IsAnswerToOld, IsAnswerToRequote, IsAnswerToSolve, IsAnswerToTable, IsAnswerToText}
 use Rattle.tqd_top.proofs.Causes.{HasCause}
-use Rattle.tqd_top.proofs.Commands.{IsShown, Means, not_none}
+use Rattle.tqd_top.proofs.Commands.{IsRequoted, IsShown, Means, not_none, seeks_some}
 use Rattle.tqd_top.proofs.Cuts.{some_number}
 use Rattle.tqd_top.proofs.Readings.{mapped, same_bytes}
 
@@ -147,9 +151,11 @@ answers_cut a w files supplier outcome Memory told given m = cut_memory supplier
 
 -- words of no form have no other answer
 pub answers_no_form : (a : Bool) (old new : State) (words : List Name) (answer : Answer) → IsNoForm words → HasCause a old new words answer → IsAnswerToNoForm answer
-answers_no_form a old new words (Solved plan amount) none c = not_none words _ c.reply.is_solve.words_are none
+answers_no_form a old new words (Solved plan amount) none c =
+    let s = c.reply in
+    seeks_some a old.world words s.files s.tree s.from s.seeks none
 answers_no_form a old new words Infeasible none c = elim c.reply [
-  | inl solved ↦ not_none words _ solved.is_solve.words_are none
+  | inl s ↦ seeks_some a old.world words s.files s.tree s.from s.seeks none
   | inr cut ↦ not_none words _ cut.1.is_break_even.words_are none
 ]
 answers_no_form a old new words (Accepted cost) none c = not_none words _ c.reply.1.is_check.words_are none
@@ -160,7 +166,9 @@ answers_no_form a old new words Words none c = tt
 answers_no_form a old new words (BadInput fault) none c = not_none words _ c.reply.1.words_are none
 answers_no_form a old new words (ReadFault file) none c = not_none words _ c.reply.1.words_are none
 answers_no_form a old new words (WriteFault Out) none c = tt
-answers_no_form a old new words (WriteFault Tree) none c = not_none words _ c.1.is_solve.words_are none
+answers_no_form a old new words (WriteFault Tree) none c =
+    let s = c.1 in
+    seeks_some a old.world words s.files s.tree s.from s.seeks none
 answers_no_form a old new words Memory none c = tt
 
 -- `check`
@@ -178,9 +186,10 @@ shown_answer a w files tree outcome answer told given m says =
     subst (λ (o : Outcome JobRead). IsAnswerToCheck a w tree o answer) (sym (m.stated.alone told outcome given))
     (λ text reads. says text (shown_text a w tree m.read.job m.shown text told m.shows reads))
 
-long_text : (o : Option Bytes) (job : Job) (text : Bytes) → IsSome o → IfSome o (λ file. text ≡ file) → IfSome o (IsTooLong job) → IsTooLong job text
-long_text None job text some reads long = cc
-long_text (Some file) job text some reads long = subst (IsTooLong job) (sym reads) long
+-- what holds of a file holds of what is read of it
+of_text : (o : Option Bytes) (P : Bytes → Type 0) (text : Bytes) → IsSome o → IfSome o (λ file. text ≡ file) → IfSome o P → P text
+of_text None P text some reads holds = cc
+of_text (Some file) P text some reads holds = subst P (sym reads) holds
 
 told_bytes : (w : World) (name : Name) → IsSome w.files → IsSome (bytes_at w name)
 unfolding bytes_at
@@ -198,8 +207,44 @@ answers_check a w files tree outcome Words told given m = absurd m
 answers_check a w files tree outcome (BadInput fault) told given m = elim m.1 [
   | inl stated ↦ subst (λ (o : Outcome JobRead). IsAnswerToCheck a w tree o (BadInput fault)) (sym (stated.alone told outcome given)) refl
   | inr long ↦ subst (λ (o : Outcome JobRead). IsAnswerToCheck a w tree o (BadInput fault)) (sym (long.stated.alone told outcome given))
-      (λ text reads. (ap (λ (t : FaultLine). t.fault) long.told_is, long_text (bytes_at w tree) long.read.job text (told_bytes w tree told) reads.all long.long.beyond))
+      (λ text reads. (ap (λ (t : FaultLine). t.fault) long.told_is, of_text (bytes_at w tree) (IsTooLong long.read.job) text (told_bytes w tree told) reads.all long.long.beyond))
 ]
 answers_check a w files tree outcome (ReadFault file) told given m = absurd m
 answers_check a w files tree outcome (WriteFault target) told given m = absurd m
 answers_check a w files tree outcome Memory told given m = text_memory a w tree outcome
+
+-- `requote`
+requote_memory : (a : Bool) (w : World) (name : Name) (outcome : Outcome JobRead) → IsAnswerToRequote a w name outcome Memory
+requote_memory a w name (Ok read) = λ text reads. tt
+requote_memory a w name (Err told) = tt
+
+-- each reading of the old tree is the text that is not too long
+old_within : (a : Bool) (w : World) (name : Name) (text found : Bytes) → IsSome w.files → IsOldText a w name found → ReadsAs a w name text → length text ≤ OLD_MAX
+old_within a w name text found told old reads = subst (λ (b : Bytes). length b ≤ OLD_MAX) (sym (same_bytes a w name text found told reads old.reads)) old.within
+
+requoted_answer : (a : Bool) (w : World) (files : FilesNamed) (name : Name) (Says : Job → Type 0) (outcome : Outcome JobRead) (answer : Answer) → IsSome w.files → JobOf a w files outcome
+    → (m : IsRequoted a w files name Says) → ((text : Bytes) → length text ≤ OLD_MAX → IsAnswerToOld m.read.job text answer) → IsAnswerToRequote a w name outcome answer
+requoted_answer a w files name Says outcome answer told given m says =
+    subst (λ (o : Outcome JobRead). IsAnswerToRequote a w name o answer) (sym (m.stated.alone told outcome given))
+    (λ text reads. says text (old_within a w name text m.text told m.is_old reads))
+
+pub answers_requote : (a : Bool) (w : World) (files : FilesNamed) (name : Name) (tree : Option Name) (outcome : Outcome JobRead) (answer : Answer) → IsSome w.files → JobOf a w files outcome
+    → Means a w (ToRequote files name tree) answer → IsAnswerToRequote a w name outcome answer
+answers_requote a w files name tree outcome (Solved plan amount) told given m = requoted_answer a w files name (λ (job : Job). Least job (units plan)) outcome (Solved plan amount) told given m (λ text within. (m.says, within))
+answers_requote a w files name tree outcome Infeasible told given m = requoted_answer a w files name HasNoPurchase outcome Infeasible told given m (λ text within. (m.says, within))
+answers_requote a w files name tree outcome (Accepted cost) told given m = absurd m
+answers_requote a w files name tree outcome AcceptedNone told given m = absurd m
+answers_requote a w files name tree outcome (Rejected rejection) told given m = absurd m
+answers_requote a w files name tree outcome Listed told given m = absurd m.1
+answers_requote a w files name tree outcome Words told given m = absurd m
+answers_requote a w files name tree outcome (BadInput fault) told given m = elim m.1 [
+  | inl stated ↦ subst (λ (o : Outcome JobRead). IsAnswerToRequote a w name o (BadInput fault)) (sym (stated.alone told outcome given)) refl
+  | inr long ↦ subst (λ (o : Outcome JobRead). IsAnswerToRequote a w name o (BadInput fault)) (sym (long.stated.alone told outcome given))
+      (λ text reads. (
+        ap (λ (t : FaultLine). t.fault) long.told_is,
+        of_text (bytes_at w name) (λ (b : Bytes). OLD_MAX < length b) text (told_bytes w name told) reads.all long.long.beyond,
+      ))
+]
+answers_requote a w files name tree outcome (ReadFault file) told given m = absurd m
+answers_requote a w files name tree outcome (WriteFault target) told given m = absurd m
+answers_requote a w files name tree outcome Memory told given m = requote_memory a w name outcome

@@ -32,7 +32,7 @@ use Rattle.tqd_top.specs.Causes.{FailsOnlyInputs, IsBadInput, IsChecked, IsReadF
 use Rattle.tqd_top.specs.BreakEven.{IsCutInfeasible}
 use Rattle.tqd_top.specs.Listed.{IsListed}
 use Rattle.command_words.specs.Forms.{usage_text}
-use Rattle.command_words.specs.Words.{IsNoForm, ToBreakEven, ToCheck, ToCompare, ToMake, ToNeed, ToSolve, ToTabulate}
+use Rattle.command_words.specs.Words.{IsNoForm, ToBreakEven, ToCheck, ToCompare, ToMake, ToNeed, ToRequote, ToSolve, ToTabulate}
 use Rattle.tqd_top.specs.Output.{IsFileShowing, IsJobSolved, IsWriteFault, Leaves, Prints, Says}
 use Rattle.tqd_top.specs.Headline.{AcceptedClause, AcceptedNoneClause, InfeasibleClause, IsProgramRun, IsSolvedInfeasible, SolvedClause}
 use Rattle.tqd_top.specs.Inner.Runs.{EndGives, Replies}
@@ -40,7 +40,7 @@ use Rattle.tqd_top.proofs.Readings.{falls_never}
 use Rattle.tqd_top.proofs.Solutions.{certified_root}
 use Rattle.tqd_top.proofs.Causes.{HasCause, cause_of, cause_of_memory, cause_of_tree, idle_after, idle_memory, idle_tree, inputs_of}
 use Rattle.tqd_top.proofs.Commands.{means}
-use Rattle.tqd_top.proofs.Completes.{answers_check, answers_compare, answers_cut, answers_make, answers_needs, answers_no_form, answers_solve, answers_table}
+use Rattle.tqd_top.proofs.Completes.{answers_check, answers_compare, answers_cut, answers_make, answers_needs, answers_no_form, answers_requote, answers_solve, answers_table}
 
 -- what the laws say of the verdict of a text
 pub record IsLawful : Type 0 where
@@ -50,30 +50,31 @@ pub record IsLawful : Type 0 where
   pub empty : (job : Job) (text : Bytes) → verdict job text ≡ NoPurchase → HasNoPurchase job
 
 -- a tree that certifies an answer is one of the root, so that its text is one of it
-text_of_certificate : (job : Job) (best : Option Purchase) (text : Bytes) → (c : IsCertificate job best text) → IsTextOf job best c.tree text
-text_of_certificate job best text c =
+text_of_certificate : (job : Job) (from : Option Bytes) (best : Option Purchase) (text : Bytes) → (c : IsCertificate job from best text) → IsTextOf job best c.tree text
+text_of_certificate job from best text c =
     let unfolds = share_root job c.tree (certified_root job best c.tree c.certifies) in
     with_slots (shared job c.tree) unfolds.0 (sym unfolds.1) c.text_is
 
 -- the text of a tree that certifies an answer has its verdict
-shows_least : (job : Job) (plan : Plan) (amount : ℕ) (text : Bytes) → IsLeastPlan job plan amount → IsCertificate job (Some (units plan)) text → ShowsLeast job text amount
-shows_least job plan amount text o c = record {
+shows_least : (job : Job) (from : Option Bytes) (plan : Plan) (amount : ℕ) (text : Bytes) → IsLeastPlan job plan amount → IsCertificate job from (Some (units plan)) text
+    → ShowsLeast job text amount
+shows_least job from plan amount text o c = record {
   x = units plan;
   tree = c.tree;
   root = c.certifies.root;
   is_root = c.certifies.is_root;
-  text_is = text_of_certificate job (Some (units plan)) text c;
+  text_is = text_of_certificate job from (Some (units plan)) text c;
   feasible = o.least.feasible;
   cost_is = o.costs;
   valid = subst (λ (n : ℕ). IsValid job (Some n) c.certifies.root c.tree) (sym o.costs) c.certifies.valid;
 }
 
-shows_none : (job : Job) (text : Bytes) → IsCertificate job None text → ShowsNone job text
-shows_none job text c = record {
+shows_none : (job : Job) (from : Option Bytes) (text : Bytes) → IsCertificate job from None text → ShowsNone job text
+shows_none job from text c = record {
   tree = c.tree;
   root = c.certifies.root;
   is_root = c.certifies.is_root;
-  text_is = text_of_certificate job None text c;
+  text_is = text_of_certificate job from None text c;
   valid = c.certifies.valid;
 }
 
@@ -112,9 +113,10 @@ prints old between new tree certificate text said saves world same =
     ∙ ap (λ (t : Bytes). option_map (λ output. output ++ t) old.output) same
 
 -- what an answer to a job leaves
-leaves : (old between new : World) (tree : Option Name) (job : Job) (best : Option Purchase) (certificate text said : Bytes) (shown : Verdict) → IsCertificate job best certificate
-    → between ≡ saved old tree certificate → new ≡ print between text → text ≡ said → verdict job certificate ≡ shown → Leaves old new tree job best said shown
-leaves old between new tree job best certificate text said shown certifies saves world same is = record {
+leaves : (old between new : World) (tree : Option Name) (job : Job) (from : Option Bytes) (best : Option Purchase) (certificate text said : Bytes) (shown : Verdict)
+    → IsCertificate job from best certificate → between ≡ saved old tree certificate → new ≡ print between text → text ≡ said → verdict job certificate ≡ shown
+    → Leaves old new tree job from best said shown
+leaves old between new tree job from best certificate text said shown certifies saves world same is = record {
   printed = prints old between new tree certificate text said saves world same;
   shows = λ name tree_is told. shown_file old between new tree name job certificate text shown tree_is saves world told is;
   certificate = certificate;
@@ -131,14 +133,15 @@ solved_clause laws a old new words plan amount c =
     record {
       files = f.files;
       tree = f.tree;
-      is_solve = f.is_solve;
+      from = f.from;
+      seeks = f.seeks;
       read = f.read;
       stated = f.stated;
       sized = s.solves.0.sized;
       least = s.solves.0.least;
       cost_is = s.solves.0.costs;
-      leaves = leaves old.world c.between new.world f.tree f.read.job (Some (units plan)) s.certificate c.text _ (Optimal amount) s.solves.2 s.saves c.world s.solves.1
-          ((laws.optimal f.read.job s.certificate amount).1 (shows_least f.read.job plan amount s.certificate s.solves.0 s.solves.2));
+      leaves = leaves old.world c.between new.world f.tree f.read.job f.from (Some (units plan)) s.certificate c.text _ (Optimal amount) s.solves.2 s.saves c.world s.solves.1
+          ((laws.optimal f.read.job s.certificate amount).1 (shows_least f.read.job f.from plan amount s.certificate s.solves.0 s.solves.2));
     }
 
 solved_infeasible : IsLawful → (a : Bool) (old between new : World) (words : List Name) (text : Bytes) → IsJobSolved a old between words Infeasible text → new ≡ print between text
@@ -148,12 +151,13 @@ solved_infeasible laws a old between new words text f world =
     record {
       files = f.files;
       tree = f.tree;
-      is_solve = f.is_solve;
+      from = f.from;
+      seeks = f.seeks;
       read = f.read;
       stated = f.stated;
       none = s.solves.0;
-      leaves = leaves old between new f.tree f.read.job None s.certificate text _ NoPurchase s.solves.2 s.saves world s.solves.1
-          ((laws.none f.read.job s.certificate).1 (shows_none f.read.job s.certificate s.solves.2));
+      leaves = leaves old between new f.tree f.read.job f.from None s.certificate text _ NoPurchase s.solves.2 s.saves world s.solves.1
+          ((laws.none f.read.job s.certificate).1 (shows_none f.read.job f.from s.certificate s.solves.2));
     }
 
 says : (old between new : World) (text : Bytes) (IsText : Bytes → Type 0) → between ≡ old → new ≡ print between text → IsText text → Says old new IsText
@@ -248,6 +252,8 @@ headline laws a old new words ended idle status cause inputs falls = record {
       (means a old new words (ToNeed orders bill) ended.answer is.words_are f cause);
   make_complete = λ seed goods suppliers is f. answers_make a old.world seed goods suppliers ended.answer
       (means a old new words (ToMake seed goods suppliers) ended.answer is.words_are f cause);
+  requote_complete = λ files name tree outcome is told given f. answers_requote a old.world files name tree outcome ended.answer told given
+      (means a old new words (ToRequote files name tree) ended.answer is.words_are f cause);
   scenarios_complete = λ files terms outcome is told given f. answers_compare a old.world files terms is.workers outcome ended.answer told given
       (means a old new words (ToCompare files terms is.workers) ended.answer is.words_are f cause);
   winners_complete = λ files outcome is told given f. answers_table a old.world files is.workers outcome ended.answer told given

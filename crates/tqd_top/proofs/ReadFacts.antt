@@ -33,7 +33,7 @@ use Rattle.command_words.specs.Words.{FilesNamed}
 use Rattle.tqd_top.specs.JobOf.{FaultLine, JobOf, NeedsOf, before_job, OffersOf, TermsGive, TermsOf, offers_stated, plainly, terms_stated, wanted}
 use Rattle.tqd_top.specs.Inner.ReadBook.{IsReadBook, IsReadJob}
 
-no_value : {F W : Type 0} (f : F) (w : W) → ◌≡◌ {A = Result W F} (Err f) (Ok w) → ⊥
+pub no_value : {F W : Type 0} (f : F) (w : W) → ◌≡◌ {A = Result W F} (Err f) (Ok w) → ⊥
 no_value f w e = cc
 
 pub one_value : {F W : Type 0} (x y : W) → ◌≡◌ {A = Result W F} (Ok x) (Ok y) → x ≡ y

@@ -14,7 +14,7 @@ use Rattle.tqd_top.specs.declared.no_value.NoValue.{NoValue}
 use Rattle.tqd_top.specs.declared.no_value.NoValue.TheVariants.{Bad, Unread, Memory}
 use Rattle.tqd_top.specs.Reads.{ReadsAs, FailsAt}
 use Rattle.tqd_top.specs.JobOf.{FaultLine, Outcome, Gives, IsOnly, Then, plainly, sized}
-use Rattle.tqd_top.specs.Inner.Steps.{Answers, StopsAt, InputGives, IsFileUnread, IsLong, IsStill, ReadGives, Yields}
+use Rattle.tqd_top.specs.Inner.Steps.{Answers, StopsAt, InputGives, IsFileUnread, IsStill, ReadGives, Yields}
 
 -- a count that rose before, or after, another did not fall
 pub rose_before : (a b c : ℕ) → Rose a b → b ≤ c → Rose a c
@@ -46,20 +46,15 @@ long_bytes : (o : Option Bytes) (limit : ℕ) → IfSome o (λ file. limit < len
 long_bytes None limit h = (replicate (limit + 1) 0, tt, omega (arith, length-replicate {A = ℕ} (limit + 1) 0))
 long_bytes (Some file) limit h = (file, refl, h)
 
-pub long_file : (a : Bool) (old : State) (name : Name) → IsTooLong a old.world name FILE_MAX → IsLong a old name
-long_file a old name h =
-    let b = long_bytes (bytes_at old.world name) FILE_MAX h.beyond in
-    record { bytes = b.0; reads = record { readable = h.readable; all = b.1 }; long = b.2 }
-
 pub unread_file : (old new : State) (file : InputFile) (name : Name) → FailsReading old new name → IsStill old new × IsFileUnread old new file name file
 unread_file old new file name f = (record { world = f.world; never_fall = f.never_fall }, record { is_file = refl; fails = record { rose = f.rose; named = f.named } })
 
 -- a halt at a fault of the size
-pub size_stops : (a : Bool) (old new : State) (file : InputFile) (name : Name) (halt : NoValue) → Rests old new → IsLong a old name → StopsAt (plainly (Size file)) halt
-    → InputGives a old new file name (Err halt)
-size_stops a old new file name (Bad fault text) rests long h = (rests, sym h, long)
-size_stops a old new file name (Unread other) rests long h = absurd h
-size_stops a old new file name Memory rests long h = rests
+pub size_stops : (a : Bool) (old new : State) (file : InputFile) (name : Name) (limit : ℕ) (halt : NoValue) → Rests old new → IsTooLong a old.world name limit
+    → StopsAt (plainly (Size file)) halt → InputGives a old new file name limit (Err halt)
+size_stops a old new file name limit (Bad fault text) rests long h = (rests, sym h, long)
+size_stops a old new file name limit (Unread other) rests long h = absurd h
+size_stops a old new file name limit Memory rests long h = rests
 
 -- a halt at a fault
 pub answers_stop : {V : Type 0} (States : Outcome V → Type 0) (told : FaultLine) (halt : NoValue) → IsOnly (Unit {0}) States (Err told) → StopsAt told halt → Answers States (Err halt)
@@ -103,12 +98,14 @@ sized_long file stated bytes h = rw (is_long (length bytes) FILE_MAX h) refl
 
 -- the outcome of one file, whose bytes were read or not
 pub input_stops : {V : Type 0} (a : Bool) (old new : State) (file : InputFile) (name : Name) (stated : Bytes → Outcome V) (halt : NoValue)
-    → InputGives a old new file name (Err halt)
+    → InputGives a old new file name FILE_MAX (Err halt)
     → ReadGives (Gives a old.world name (sized file stated)) (IsFileUnread old new file name) old new (Err halt)
-input_stops a old new file name stated (Bad fault text) h = (
-  h.0,
-  only_gives a old.world name (sized file stated) h.2.bytes _ h.2.reads (sized_long file stated h.2.bytes h.2.long ∙ ap (λ (t : FaultLine). Err t) (sym h.1)),
-)
+input_stops a old new file name stated (Bad fault text) h =
+    let long = long_bytes (bytes_at old.world name) FILE_MAX h.2.beyond in (
+      h.0,
+      only_gives a old.world name (sized file stated) long.0 _ (record { readable = h.2.readable; all = long.1 })
+          (sized_long file stated long.0 long.2 ∙ ap (λ (t : FaultLine). Err t) (sym h.1)),
+    )
 input_stops a old new file name stated (Unread other) h = h
 input_stops a old new file name stated Memory h = h
 

@@ -24,17 +24,22 @@ use Rattle.tqd_top.specs.declared.answer.Answer.TheVariants.{Solved, Infeasible,
 use Rattle.tqd_instance.specs.declared.job.Job.{Job}
 use Rattle.tqd_top.specs.declared.reading.NeedsRead.{NeedsRead}
 use Rattle.tqd_top.specs.declared.reading.JobRead.{JobRead}
-use Rattle.command_words.specs.Words.{Asked, FilesNamed, IsFileOf, IsReadBy, ToBreakEven, ToCheck, ToCompare, ToMake, ToNeed, ToSolve, ToTabulate, command_of}
+use Rattle.command_words.specs.Words.{Asked, FilesNamed, IsFileOf, IsReadBy, ToBreakEven, ToCheck, ToCompare, ToMake, ToNeed, ToRequote, ToSolve, ToTabulate, command_of}
 use Rattle.tqd_top.specs.Reads.{FailsAt}
 use Rattle.tqd_top.specs.JobOf.{JobOf, NeedsOf, IsJobOutcome, IsNeedsOutcome}
 use Rattle.tqd_top.specs.Scenarios.{IsScenariosOutcome, ScenariosOf}
-use Rattle.tqd_top.specs.Unread.{IsUnread, IsUnreadBill, IsUnreadScenarios, IsUnreadWithTree, IsUnreadBy}
-use Rattle.tqd_top.specs.Inner.Steps.{ReadGives}
+use Rattle.tqd_top.specs.Requotes.{IsOldText, Seeks}
+use Rattle.requote.specs.declared.replanting.TheConstants.{OLD_MAX}
+use Rattle.tqd_base.specs.ReadAll.{IsTooLong}
+use Rattle.tqd_top.specs.Reads.{ReadsAs}
+use Rattle.tqd_top.specs.declared.old_tree.RequoteRead.{RequoteRead}
+use Rattle.tqd_top.specs.Unread.{IsUnread, IsUnreadBill, IsUnreadScenarios, IsUnreadWithOld, IsUnreadWithTree, IsUnreadBy}
+use Rattle.tqd_top.specs.Inner.Steps.{InputGives, ReadGives}
 use Rattle.tqd_top.specs.Solves.{IsCut, IsSolved}
 use Rattle.tqd_top.specs.Inner.Solving.{SolveGives}
 use Rattle.tqd_top.specs.Causes.{FailsOnlyInputs}
 use Rattle.tqd_top.specs.Output.{IsReply, IsTreeCut}
-use Rattle.tqd_top.specs.Inner.Runs.{Checks, Replies, ReplyWithoutValue, StopsBy, IsQuiet, PlainReplies, VerdictGives, or_no_reply}
+use Rattle.tqd_top.specs.Inner.Runs.{Checks, IsRequoteRead, Replies, ReplyWithoutValue, RequoteGives, StopsBy, IsQuiet, PlainReplies, VerdictGives, or_no_reply}
 use Rattle.tqd_top.specs.Inner.Saving.{IsSteady}
 use Rattle.tqd_top.specs.MakeAnswer.{SumsUp}
 use Rattle.tqd_top.specs.BreakEven.{AnswersCut}
@@ -79,6 +84,16 @@ tree_input a old new files tree TreeFile f told = (tree, inr refl, f.2.named tol
 tree_input a old new files tree Old f told = absurd f
 tree_input a old new files tree (Scenario at) f told = absurd f
 
+old_input : (a : Bool) (old new : State) (files : FilesNamed) (given : Name) (file : InputFile) → IsUnreadWithOld a old new files given file → IsSome old.world.files
+    → (name : Name) × (IsFileOf files name ⊎ (name ≡ given)) × (new.failed_last ≡ Some name)
+old_input a old new files given Orders f told = let named = file_input a old new files Orders f told in (named.0, inl named.1, named.2)
+old_input a old new files given Bill f told = let named = file_input a old new files Bill f told in (named.0, inl named.1, named.2)
+old_input a old new files given Offers f told = let named = file_input a old new files Offers f told in (named.0, inl named.1, named.2)
+old_input a old new files given Terms f told = let named = file_input a old new files Terms f told in (named.0, inl named.1, named.2)
+old_input a old new files given TreeFile f told = absurd f
+old_input a old new files given Old f told = (given, inr refl, f.2.named told)
+old_input a old new files given (Scenario at) f told = absurd f
+
 -- a word that names a file is one of the words
 no_name : (name : Name) → ◌≡◌ {A = Option Name} None (Some name) → ⊥
 no_name name e = cc
@@ -113,6 +128,7 @@ unread_input a old new (ToSolve files tree workers) file f told = file_input a o
 unread_input a old new (ToCheck files tree) file f told = tree_input a old new files tree file f told
 unread_input a old new (ToNeed orders bill) file f told = bill_input a old new orders bill file f told
 unread_input a old new (ToMake seed goods suppliers) file f told = absurd f
+unread_input a old new (ToRequote files name tree) file f told = old_input a old new files name file f told
 unread_input a old new (ToCompare files terms workers) file f told = scenarios_input a old new files terms file f told
 unread_input a old new (ToTabulate files workers) file f told = file_input a old new files file f told
 unread_input a old new (ToBreakEven files supplier) file f told = file_input a old new files file f told
@@ -187,6 +203,39 @@ check_after a old mid new files tree read (Err (Bad fault text)) rests stated g 
 check_after a old mid new files tree read (Err (Unread file)) rests stated g =
     (still_then old mid new rests g.0, subst (IsUnreadWithTree a old new files tree) (sym g.1.is_file) (read, stated.states, fails_later old mid new tree rests g.1.fails))
 check_after a old mid new files tree read (Err WantsMemoryToo) rests stated g = rests_then old mid new rests g
+
+-- a job was read for a `requote`, or not; and then the old tree
+unread_with_old : (a : Bool) (old new : State) (files : FilesNamed) (name : Name) (file : InputFile) → IsUnread a old new files file → IsUnreadWithOld a old new files name file
+unread_with_old a old new files name Orders f = f
+unread_with_old a old new files name Bill f = f
+unread_with_old a old new files name Offers f = f
+unread_with_old a old new files name Terms f = f
+unread_with_old a old new files name TreeFile f = absurd f
+unread_with_old a old new files name Old f = absurd f
+unread_with_old a old new files name (Scenario at) f = absurd f
+
+pub old_stops : (a : Bool) (old new : State) (files : FilesNamed) (name : Name) (halt : NoValue)
+    → ReadGives {V = JobRead} (JobOf a old.world files) (IsUnread a old new files) old new (Err halt) → RequoteGives a old new files name (Err halt)
+old_stops a old new files name (Bad fault text) h = λ tree. (h.0, inl h.1)
+old_stops a old new files name (Unread file) h = λ tree. (h.0, unread_with_old a old new files name file h.1)
+old_stops a old new files name WantsMemoryToo h = λ tree. h
+
+pub old_unread : (a : Bool) (old mid new : State) (files : FilesNamed) (name : Name) (read : JobRead) (halt : NoValue) → Rests old mid → IsJobOutcome a old.world files (Ok read)
+    → InputGives a mid new Old name OLD_MAX (Err halt) → RequoteGives a old new files name (Err halt)
+old_unread a old mid new files name read (Bad fault text) rests stated g = λ tree. (
+  rests_then old mid new rests g.0,
+  inr (record { read = read; stated = stated; told_is = g.1; long = subst (λ (w : World). IsTooLong a w name OLD_MAX) rests.world g.2 }),
+)
+old_unread a old mid new files name read (Unread file) rests stated g = λ tree.
+    (still_then old mid new rests g.0, subst (IsUnreadWithOld a old new files name) (sym g.1.is_file) (read, stated.states, fails_later old mid new name rests g.1.fails))
+old_unread a old mid new files name read WantsMemoryToo rests stated g = λ tree. rests_then old mid new rests g
+
+pub requote_read : (a : Bool) (old mid new : State) (files : FilesNamed) (name : Name) (read : RequoteRead) → Rests old mid → IsJobOutcome a old.world files (Ok read.job)
+    → Rests mid new → ReadsAs a mid.world name read.old → length read.old ≤ OLD_MAX → RequoteGives a old new files name (Ok read)
+requote_read a old mid new files name read rests stated rest reads within = (
+  rests_then old mid new rests rest,
+  record { stated = stated; is_old = record { reads = subst (λ (w : World). ReadsAs a w name read.old) rests.world reads; within = within } },
+)
 
 -- the answer at a halt
 stop_quiet : (a : Bool) (old new : State) (words : List Name) (command : Asked) (halt : NoValue) → command_of words ≡ Some command → StopsBy a old new command halt → IsQuiet old new words
@@ -329,50 +378,50 @@ cut_replies a old new words files supplier read (Ok reply) are rests stated c =
 cut_replies a old new words files supplier read (Err stop) are rests stated c = record { quiet = quiet_rests old new words rests; gives = rests.world }
 
 -- the answer to a job that was read
-solved_reply : (a : Bool) (old new : State) (between : World) (words : List Name) (files : FilesNamed) (tree : Option Name) (workers : ℕ) (read : JobRead) (answer : Answer) (text : Bytes)
-    → command_of words ≡ Some (ToSolve files tree workers) → IsJobOutcome a old.world files (Ok read) → IsSolved read old.world between tree answer text
+solved_reply : (a : Bool) (old new : State) (between : World) (words : List Name) (files : FilesNamed) (tree : Option Name) (from : Option Bytes) (read : JobRead) (answer : Answer) (text : Bytes)
+    → Seeks a old.world words files tree from → IsJobOutcome a old.world files (Ok read) → IsSolved read from old.world between tree answer text
     → IsReply a old new between words answer text
-solved_reply a old new between words files tree workers read (Solved plan amount) text are stated s =
-    record { files = files; tree = tree; is_solve = record { workers = workers; words_are = are }; read = read; stated = stated; solved = s }
-solved_reply a old new between words files tree workers read Infeasible text are stated s =
-    inl (record { files = files; tree = tree; is_solve = record { workers = workers; words_are = are }; read = read; stated = stated; solved = s })
-solved_reply a old new between words files tree workers read (Accepted cost) text are stated s = absurd s.solves
-solved_reply a old new between words files tree workers read AcceptedNone text are stated s = absurd s.solves
-solved_reply a old new between words files tree workers read (Rejected rejection) text are stated s = absurd s.solves
-solved_reply a old new between words files tree workers read Listed text are stated s = absurd s.solves
-solved_reply a old new between words files tree workers read Words text are stated s = absurd s.solves
-solved_reply a old new between words files tree workers read (BadInput fault) text are stated s = absurd s.solves
-solved_reply a old new between words files tree workers read (ReadFault file) text are stated s = absurd s.solves
-solved_reply a old new between words files tree workers read (WriteFault target) text are stated s = absurd s.solves
-solved_reply a old new between words files tree workers read Memory text are stated s = absurd s.solves
+solved_reply a old new between words files tree from read (Solved plan amount) text seeks stated s =
+    record { files = files; tree = tree; from = from; seeks = seeks; read = read; stated = stated; solved = s }
+solved_reply a old new between words files tree from read Infeasible text seeks stated s =
+    inl (record { files = files; tree = tree; from = from; seeks = seeks; read = read; stated = stated; solved = s })
+solved_reply a old new between words files tree from read (Accepted cost) text seeks stated s = absurd s.solves
+solved_reply a old new between words files tree from read AcceptedNone text seeks stated s = absurd s.solves
+solved_reply a old new between words files tree from read (Rejected rejection) text seeks stated s = absurd s.solves
+solved_reply a old new between words files tree from read Listed text seeks stated s = absurd s.solves
+solved_reply a old new between words files tree from read Words text seeks stated s = absurd s.solves
+solved_reply a old new between words files tree from read (BadInput fault) text seeks stated s = absurd s.solves
+solved_reply a old new between words files tree from read (ReadFault file) text seeks stated s = absurd s.solves
+solved_reply a old new between words files tree from read (WriteFault target) text seeks stated s = absurd s.solves
+solved_reply a old new between words files tree from read Memory text seeks stated s = absurd s.solves
 
-cut_reply : (a : Bool) (old between : World) (words : List Name) (files : FilesNamed) (tree : Option Name) (workers : ℕ) (read : JobRead)
-    → command_of words ≡ Some (ToSolve files tree workers) → IsJobOutcome a old files (Ok read) → IsCut read old between tree → IsTreeCut a old between words
-cut_reply a old between words files tree workers read are stated l =
-    record { files = files; tree = tree; is_solve = record { workers = workers; words_are = are }; read = read; stated = stated; cut = l }
+cut_reply : (a : Bool) (old between : World) (words : List Name) (files : FilesNamed) (tree : Option Name) (from : Option Bytes) (read : JobRead)
+    → Seeks a old words files tree from → IsJobOutcome a old files (Ok read) → IsCut read from old between tree → IsTreeCut a old between words
+cut_reply a old between words files tree from read seeks stated l =
+    record { files = files; tree = tree; from = from; seeks = seeks; read = read; stated = stated; cut = l }
 
 solve_quiet : (old mid new : State) (words : List Name) → Rests old mid → IsSteady mid new → IsQuiet old new words
 solve_quiet old mid new words rests s = record { never_fall = falls_never _ mid.faults _ rests.never_fall s.never_fall; named = λ told. inl (s.kept ∙ rests.kept) }
 
-pub solve_replies : (a : Bool) (old mid new : State) (words : List Name) (files : FilesNamed) (tree : Option Name) (workers : ℕ) (read : JobRead) (r : Result Reply NoReply)
-    → command_of words ≡ Some (ToSolve files tree workers) → Rests old mid → IsJobOutcome a old.world files (Ok read) → SolveGives read mid new tree r → Replies a old new words r
-solve_replies a old mid new words files tree workers read (Ok reply) are rests stated g = record {
+pub solve_replies : (a : Bool) (old mid new : State) (words : List Name) (files : FilesNamed) (tree : Option Name) (from : Option Bytes) (read : JobRead) (r : Result Reply NoReply)
+    → Seeks a old.world words files tree from → Rests old mid → IsJobOutcome a old.world files (Ok read) → SolveGives read from mid new tree r → Replies a old new words r
+solve_replies a old mid new words files tree from read (Ok reply) seeks rests stated g = record {
   quiet = solve_quiet old mid new words rests g.0;
-  gives = solved_reply a old new new.world words files tree workers read reply.answer reply.text.items are stated
-      (subst (λ (w : World). IsSolved read w new.world tree reply.answer reply.text.items) rests.world g.1);
+  gives = solved_reply a old new new.world words files tree from read reply.answer reply.text.items seeks stated
+      (subst (λ (w : World). IsSolved read from w new.world tree reply.answer reply.text.items) rests.world g.1);
 }
-solve_replies a old mid new words files tree workers read (Err NoTree) are rests stated g = record {
+solve_replies a old mid new words files tree from read (Err NoTree) seeks rests stated g = record {
   quiet = solve_quiet old mid new words rests g.0;
   gives = (
     rose_later old.faults.writing mid.faults.writing new.faults.writing rests.never_fall.writing g.1,
-    cut_reply a old.world new.world words files tree workers read are stated (subst (λ (w : World). IsCut read w new.world tree) rests.world g.2),
+    cut_reply a old.world new.world words files tree from read seeks stated (subst (λ (w : World). IsCut read from w new.world tree) rests.world g.2),
   );
 }
-solve_replies a old mid new words files tree workers read (Err WantsMemory) are rests stated g = record {
+solve_replies a old mid new words files tree from read (Err WantsMemory) seeks rests stated g = record {
   quiet = solve_quiet old mid new words rests g.0;
   gives = elim g.1 [
     | inl same ↦ inl (same ∙ rests.world)
-    | inr lost ↦ inr (cut_reply a old.world new.world words files tree workers read are stated (subst (λ (w : World). IsCut read w new.world tree) rests.world lost))
+    | inr lost ↦ inr (cut_reply a old.world new.world words files tree from read seeks stated (subst (λ (w : World). IsCut read from w new.world tree) rests.world lost))
   ];
 }
 

@@ -30,8 +30,8 @@ pub record IsCutText (read : JobRead) (supplier : Name) (text : Bytes) : Type 0 
   pub is_least : IsLeastCut read.job i answer
   pub text_is : text ≡ break_even_text supplier answer
 
--- the answer to a job that was read, and its text: the least cut, where a purchase is feasible; that none is; or that no
--- supplier has this name
+-- the answer to a job that was read, and its text: the least cut, where a purchase is feasible; that none is; or that
+-- no supplier has this name
 abbrev pub AnswersCut : JobRead → Name → Answer → Bytes → Type 0
 AnswersCut read supplier Listed text = HasPurchase read.job × IsCutText read supplier text
 AnswersCut read supplier Infeasible text =

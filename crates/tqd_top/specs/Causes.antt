@@ -10,9 +10,10 @@ use Rattle.plan_report.specs.FaultText.{unread_text}
 use Rattle.tqd_top.specs.declared.answer.Answer.{Answer}
 use Rattle.tqd_top.specs.declared.answer.Answer.TheVariants.{Solved, Infeasible, Accepted, AcceptedNone, Rejected, Listed, Words, BadInput, ReadFault, WriteFault, Memory}
 use Rattle.tqd_top.specs.declared.reading.JobRead.{JobRead}
-use Rattle.command_words.specs.Words.{Asked, FilesNamed, IsCheck, IsInput, ToBreakEven, ToCheck, ToCompare, ToMake, ToNeed, ToSolve, ToTabulate, command_of}
+use Rattle.command_words.specs.Words.{Asked, FilesNamed, IsCheck, IsInput, ToBreakEven, ToCheck, ToCompare, ToMake, ToNeed, ToRequote, ToSolve, ToTabulate, command_of}
 use Rattle.tqd_top.specs.JobOf.{IsJobOutcome, IsNeedsOutcome, FaultLine, plainly}
 use Rattle.tqd_top.specs.Scenarios.{IsScenariosOutcome}
+use Rattle.tqd_top.specs.Requotes.{IsOldFault}
 use Rattle.tqd_top.specs.Shows.{IsLongTree, Shows, VerdictAnswer}
 use Rattle.tqd_top.specs.BreakEven.{IsCutAnswer}
 use Rattle.tqd_top.specs.Unread.{IsUnreadBy}
@@ -58,6 +59,8 @@ IsFaultOf absent_is_empty w (ToCheck files tree) told =
     IsJobOutcome absent_is_empty w files (Err told) ⊎ IsTreeFault absent_is_empty w files tree told
 IsFaultOf absent_is_empty w (ToNeed orders bill) told = IsNeedsOutcome absent_is_empty w orders bill (Err told)
 IsFaultOf absent_is_empty w (ToMake seed goods suppliers) told = ⊥
+IsFaultOf absent_is_empty w (ToRequote files old tree) told =
+    IsJobOutcome absent_is_empty w files (Err told) ⊎ IsOldFault absent_is_empty w files old told
 IsFaultOf absent_is_empty w (ToCompare files terms workers) told =
     IsScenariosOutcome absent_is_empty w files terms (Err told)
 IsFaultOf absent_is_empty w (ToTabulate files workers) told = IsJobOutcome absent_is_empty w files (Err told)

@@ -1,11 +1,11 @@
 -- The answers where no count of faults rises.
-use Rattle.std.specs.Prelude.{◌≡◌, Bool, List, Ok, Err}
+use Rattle.std.specs.Prelude.{◌≡◌, ◌<◌, ◌≤◌, Bool, List, length, Ok, Err}
 use Rattle.tqd_base.specs.World.{World, State, Name, Bytes, Rose}
 use Rattle.tqd_instance.specs.declared.job.Job.{Job}
 use Rattle.tree_checker.specs.declared.rejection.Verdict.TheVariants.{Optimal, NoPurchase, Rejected as ShowsNothing}
 use Rattle.tree_checker.specs.Verdict.{verdict}
 use Rattle.tree_checker.specs.CheckFrom.{IsTooLong}
-use Rattle.plan_report.specs.declared.file.InputFile.TheVariants.{Tree as TreeFile}
+use Rattle.plan_report.specs.declared.file.InputFile.TheVariants.{Tree as TreeFile, Old}
 use Rattle.plan_report.specs.declared.fault.FileFault.TheVariants.{Size, NoSupplier}
 use Rattle.tqd_instance.specs.Plan.{units}
 use Rattle.tqd_instance.specs.Least.{Least, HasNoPurchase}
@@ -17,6 +17,7 @@ use Rattle.tqd_top.specs.declared.reading.JobRead.{JobRead}
 use Rattle.tqd_top.specs.Reads.{ReadsAs}
 use Rattle.tqd_top.specs.JobOf.{Outcome, FaultLine}
 use Rattle.order_gen.specs.GenParts.{HasPurchase}
+use Rattle.requote.specs.declared.replanting.TheConstants.{OLD_MAX}
 use Rattle.tqd_top.specs.BreakEven.{HasNoSupplier, HasSupplier}
 
 -- no count of faults rose
@@ -55,6 +56,21 @@ abbrev pub IsAnswerToCheck : Bool → World → Name → Outcome JobRead → Ans
 IsAnswerToCheck absent_is_empty w tree (Err told) answer = IsAnswerToFault told answer
 IsAnswerToCheck absent_is_empty w tree (Ok read) answer =
     (text : Bytes) → ReadsAs absent_is_empty w tree text → IsAnswerToText read.job text answer
+
+-- `requote`, where the files state a job and this is the text of the old tree: a least purchase, or that there is none,
+-- for this very job, where the text is not too long; or that it is
+abbrev pub IsAnswerToOld : Job → Bytes → Answer → Type 0
+IsAnswerToOld job text (Solved plan amount) = Least job (units plan) × (length text ≤ OLD_MAX)
+IsAnswerToOld job text Infeasible = HasNoPurchase job × (length text ≤ OLD_MAX)
+IsAnswerToOld job text (BadInput fault) = (fault ≡ Size Old) × (OLD_MAX < length text)
+IsAnswerToOld job text Memory = Unit {0}
+IsAnswerToOld job text _ = ⊥
+
+-- and where they state a fault
+abbrev pub IsAnswerToRequote : Bool → World → Name → Outcome JobRead → Answer → Type 0
+IsAnswerToRequote absent_is_empty w old (Err told) answer = IsAnswerToFault told answer
+IsAnswerToRequote absent_is_empty w old (Ok read) answer =
+    (text : Bytes) → ReadsAs absent_is_empty w old text → IsAnswerToOld read.job text answer
 
 -- `needs`, where the files state needs or a fault
 abbrev pub IsAnswerToNeeds : Outcome NeedsRead → Answer → Type 0

@@ -23,42 +23,48 @@ use Rattle.tqd_top.specs.declared.answer.Ended.{Ended}
 use Rattle.tqd_top.specs.declared.reading.NeedsRead.{NeedsRead}
 use Rattle.tqd_top.specs.declared.reading.JobRead.{JobRead}
 use Rattle.command_words.specs.Forms.{usage_text}
-use Rattle.command_words.specs.Words.{FilesNamed, IsBreakEven, IsCheck, IsMake, IsNeeds, IsNoForm, IsScenarios, IsSolve, IsWinners}
+use Rattle.command_words.specs.Words.{FilesNamed, IsBreakEven, IsCheck, IsMake, IsNeeds, IsNoForm, IsRequote, IsScenarios, IsSolve, IsWinners}
 use Rattle.tqd_top.specs.Reads.{ReadsAs}
 use Rattle.tqd_top.specs.JobOf.{IsJobOutcome, JobOf, NeedsOf, Outcome}
 use Rattle.tqd_top.specs.Scenarios.{ScenariosOf}
+use Rattle.tqd_top.specs.Requotes.{Seeks}
 use Rattle.tqd_top.specs.Causes.{FailsOnlyInputs, IsBadInput, IsChecked, IsReadFault, status_of}
 use Rattle.tqd_top.specs.BreakEven.{IsCutInfeasible}
 use Rattle.tqd_top.specs.Listed.{IsListed}
 use Rattle.tqd_top.specs.Output.{IsWant, IsWriteFault, Leaves, Says}
-use Rattle.tqd_top.specs.Complete.{IsAnswerToCheck, IsAnswerToCompare, IsAnswerToCut, IsAnswerToMake, IsAnswerToNeeds, IsAnswerToNoForm, IsAnswerToSolve, IsAnswerToTable, IsFaultless}
+use Rattle.tqd_top.specs.Complete.{IsAnswerToCheck, IsAnswerToCompare, IsAnswerToCut, IsAnswerToMake, IsAnswerToNeeds, IsAnswerToNoForm, IsAnswerToRequote, IsAnswerToSolve, IsAnswerToTable, IsFaultless}
 
--- `solve`, whose files state a job, found a plan of it: no feasible purchase costs less
+-- `solve` or `requote`, whose files state a job, found a plan of it: no feasible purchase costs less. The tree of a
+-- `requote` grew from the text of OLD
 pub record SolvedClause (absent_is_empty : Bool) (old new : World) (words : List Name) (plan : Plan)
     (amount : ℕ) : Type 0 where
   pub files : FilesNamed
   pub tree : Option Name
-  pub is_solve : IsSolve words files tree
+  pub from : Option Bytes
+  pub seeks : Seeks absent_is_empty old words files tree from
   pub read : JobRead
   pub stated : IsJobOutcome absent_is_empty old files (Ok read)
   pub sized : IsSizedFor read.job plan
   pub least : Least read.job (units plan)
   pub cost_is : amount ≡ cost read.job (units plan)
-  pub leaves : Leaves old new tree read.job (Some (units plan))
+  pub leaves : Leaves old new tree read.job from (Some (units plan))
       (plan_text read.job (units plan) (good_at read.bill.names read.needs.goods) (name_at read.book.suppliers))
       (Optimal amount)
 
--- `solve`, whose files state a job, found that no purchase is feasible
+-- `solve` or `requote`, whose files state a job, found that no purchase is feasible. The tree of a `requote` grew from
+-- the text of OLD
 pub record IsSolvedInfeasible (absent_is_empty : Bool) (old new : World) (words : List Name) : Type 0 where
   pub files : FilesNamed
   pub tree : Option Name
-  pub is_solve : IsSolve words files tree
+  pub from : Option Bytes
+  pub seeks : Seeks absent_is_empty old words files tree from
   pub read : JobRead
   pub stated : IsJobOutcome absent_is_empty old files (Ok read)
   pub none : HasNoPurchase read.job
-  pub leaves : Leaves old new tree read.job None infeasible_text NoPurchase
+  pub leaves : Leaves old new tree read.job from None infeasible_text NoPurchase
 
--- no purchase is feasible: of the job of a `solve`, or of a `break-even`, which prints that and saves nothing
+-- no purchase is feasible: of the job of a `solve` or `requote`, or of a `break-even`, which prints that and saves
+-- nothing
 abbrev pub InfeasibleClause : Bool → World → World → List Name → Type 0
 InfeasibleClause absent_is_empty old new words = IsSolvedInfeasible absent_is_empty old new words
     ⊎ Says old new (IsCutInfeasible absent_is_empty old words)
@@ -98,7 +104,7 @@ pub record IsProgramRun (absent_is_empty : Bool) (old new : State) (words : List
   -- What each answer means. A plan is a least purchase, and its tree shows that.
   pub solved : (plan : Plan) (amount : ℕ) → ended.answer ≡ Solved plan amount
       → SolvedClause absent_is_empty old.world new.world words plan amount
-  -- Infeasible comes where there is no feasible purchase, and the tree of a `solve` shows that.
+  -- Infeasible comes where there is no feasible purchase, and the tree of a `solve` or `requote` shows that.
   pub infeasible : ended.answer ≡ Infeasible → InfeasibleClause absent_is_empty old.world new.world words
   -- A cost that `check` accepts is that of a least purchase, which the tree has.
   pub accepted : (amount : ℕ) → ended.answer ≡ Accepted amount
@@ -143,6 +149,12 @@ pub record IsProgramRun (absent_is_empty : Bool) (old new : State) (words : List
   -- And `make` makes its summary, or wants memory.
   pub make_complete : (seed goods suppliers : ℕ) → IsMake words seed goods suppliers → IsFaultless old new
       → IsAnswerToMake ended.answer
+  -- And `requote` answers for the job, whatever the old tree holds, or says that its text is too long or what the fault
+  -- is, or wants memory.
+  pub requote_complete : (files : FilesNamed) (name : Name) (tree : Option Name) (outcome : Outcome JobRead)
+      → IsRequote words files name tree → IsSome old.world.files
+      → JobOf absent_is_empty old.world files outcome → IsFaultless old new
+      → IsAnswerToRequote absent_is_empty old.world name outcome ended.answer
   -- And `scenarios` lists the least costs of the jobs, or says what the fault is, or wants memory.
   pub scenarios_complete : (files : FilesNamed) (terms : List (Option Name)) (outcome : Outcome (List Job))
       → IsScenarios words files terms → IsSome old.world.files

@@ -1,6 +1,7 @@
 pub mod Reads
 pub mod JobOf
 pub mod Scenarios
+pub mod Requotes
 pub mod Unread
 pub mod Certificate
 pub mod SavedTree

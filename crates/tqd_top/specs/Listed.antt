@@ -9,7 +9,7 @@ use Rattle.plan_report.specs.CostsText.{scenarios_text, winners_text}
 use Rattle.tqd_top.specs.declared.answer.Answer.TheVariants.{Listed}
 use Rattle.tqd_top.specs.declared.reading.NeedsRead.{NeedsRead}
 use Rattle.tqd_top.specs.declared.reading.JobRead.{JobRead}
-use Rattle.command_words.specs.Words.{Asked, FilesNamed, ToBreakEven, ToCheck, ToCompare, ToMake, ToNeed, ToSolve, ToTabulate, command_of}
+use Rattle.command_words.specs.Words.{Asked, FilesNamed, ToBreakEven, ToCheck, ToCompare, ToMake, ToNeed, ToRequote, ToSolve, ToTabulate, command_of}
 use Rattle.tqd_top.specs.JobOf.{IsJobOutcome, IsNeedsOutcome}
 use Rattle.tqd_top.specs.Scenarios.{IsScenariosOutcome}
 use Rattle.tqd_top.specs.MakeAnswer.{SumsUp}
@@ -54,9 +54,11 @@ IsListedBy absent_is_empty w (ToSolve files tree workers) text = ⊥
 IsListedBy absent_is_empty w (ToCheck files tree) text = ⊥
 IsListedBy absent_is_empty w (ToNeed orders bill) text = IsNeedsListed absent_is_empty w orders bill text
 IsListedBy absent_is_empty w (ToMake seed goods suppliers) text = SumsUp seed goods suppliers text
+IsListedBy absent_is_empty w (ToRequote files old tree) text = ⊥
 IsListedBy absent_is_empty w (ToCompare files terms workers) text = AreCostsListed absent_is_empty w files terms text
 IsListedBy absent_is_empty w (ToTabulate files workers) text = IsTableListed absent_is_empty w files text
-IsListedBy absent_is_empty w (ToBreakEven files supplier) text = IsCutAnswer absent_is_empty w files supplier Listed text
+IsListedBy absent_is_empty w (ToBreakEven files supplier) text =
+    IsCutAnswer absent_is_empty w files supplier Listed text
 
 pub record IsListed (absent_is_empty : Bool) (old : World) (words : List Name) (text : Bytes) : Type 0 where
   pub command : Asked

@@ -12,8 +12,9 @@ use Rattle.tqd_top.specs.declared.answer.Answer.{Answer}
 use Rattle.tqd_top.specs.declared.answer.Answer.TheVariants.{Solved, Infeasible, Accepted, AcceptedNone, Rejected, Listed, Words, BadInput, ReadFault, WriteFault, Memory}
 use Rattle.tqd_top.specs.declared.reading.JobRead.{JobRead}
 use Rattle.command_words.specs.Forms.{usage_text}
-use Rattle.command_words.specs.Words.{FilesNamed, IsNoForm, IsSolve}
+use Rattle.command_words.specs.Words.{FilesNamed, IsNoForm}
 use Rattle.tqd_top.specs.JobOf.{IsJobOutcome}
+use Rattle.tqd_top.specs.Requotes.{Seeks}
 use Rattle.tqd_top.specs.Certificate.{IsCertificate}
 use Rattle.tqd_top.specs.SavedTree.{saved}
 use Rattle.tqd_top.specs.Solves.{IsCut, IsSolved}
@@ -38,34 +39,37 @@ pub record IsFileShowing (w : World) (name : Name) (job : Job) (shown : Verdict)
   pub verdict_is : verdict job bytes ≡ shown
 
 -- an answer to a job was printed; where the words name a file for its tree and the files are told, the bytes of that
--- file show the answer; they are the text of a tree that certifies it; and nothing else of the world changed
-pub record Leaves (old new : World) (tree : Option Name) (job : Job) (best : Option Purchase) (text : Bytes)
-    (shown : Verdict) : Type 0 where
+-- file show the answer; they are the text of a tree that certifies it, grown from an old text where there is one; and
+-- nothing else of the world changed
+pub record Leaves (old new : World) (tree : Option Name) (job : Job) (from : Option Bytes) (best : Option Purchase)
+    (text : Bytes) (shown : Verdict) : Type 0 where
   pub printed : Prints old new text
   pub shows : (name : Name) → tree ≡ Some name → IsSome old.files → IsFileShowing new name job shown
   pub certificate : Bytes
-  pub certifies : IsCertificate job best certificate
+  pub certifies : IsCertificate job from best certificate
   pub world : new ≡ print (saved old tree certificate) text
 
--- the words are a `solve`, its files state a job, and this is the answer to it, whose tree is saved where the words
--- name a file
+-- the words are a `solve` or a `requote`, its files state a job, and this is the answer to it, whose tree is saved
+-- where the words name a file
 pub record IsJobSolved (absent_is_empty : Bool) (old between : World) (words : List Name) (answer : Answer)
     (text : Bytes) : Type 0 where
   pub files : FilesNamed
   pub tree : Option Name
-  pub is_solve : IsSolve words files tree
+  pub from : Option Bytes
+  pub seeks : Seeks absent_is_empty old words files tree from
   pub read : JobRead
   pub stated : IsJobOutcome absent_is_empty old files (Ok read)
-  pub solved : IsSolved read old between tree answer text
+  pub solved : IsSolved read from old between tree answer text
 
 -- the same, but the file of the tree was not made, or has a prefix of the tree
 pub record IsTreeCut (absent_is_empty : Bool) (old between : World) (words : List Name) : Type 0 where
   pub files : FilesNamed
   pub tree : Option Name
-  pub is_solve : IsSolve words files tree
+  pub from : Option Bytes
+  pub seeks : Seeks absent_is_empty old words files tree from
   pub read : JobRead
   pub stated : IsJobOutcome absent_is_empty old files (Ok read)
-  pub cut : IsCut read old between tree
+  pub cut : IsCut read from old between tree
 
 -- an answer that the call could end with, and its text; `between` is the world before the text is printed
 abbrev pub IsReply : Bool → State → State → World → List Name → Answer → Bytes → Type 0

@@ -1,4 +1,4 @@
--- The file of a tree after a `solve`: whole, or cut short.
+-- The file of a tree after a `solve` or a `requote`: whole, or cut short.
 use Rattle.std.specs.Prelude.{ℕ, ◌≡◌, ◌≤◌, ◌⊎◌, Option, None, Some, length, take}
 use Rattle.tqd_base.specs.World.{World, Name, Bytes, set_file}
 

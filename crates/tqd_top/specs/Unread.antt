@@ -9,7 +9,7 @@ use Rattle.plan_report.specs.declared.file.InputFile.TheVariants.{Orders, Bill, 
 use Rattle.tqd_top.specs.declared.reading.NeedsRead.{NeedsRead}
 use Rattle.tqd_top.specs.declared.reading.OffersRead.{OffersRead}
 use Rattle.tqd_top.specs.declared.reading.JobRead.{JobRead}
-use Rattle.command_words.specs.Words.{Asked, FilesNamed, ToBreakEven, ToCheck, ToCompare, ToMake, ToNeed, ToSolve, ToTabulate}
+use Rattle.command_words.specs.Words.{Asked, FilesNamed, ToBreakEven, ToCheck, ToCompare, ToMake, ToNeed, ToRequote, ToSolve, ToTabulate}
 use Rattle.tqd_top.specs.Reads.{FailsAt}
 use Rattle.tqd_top.specs.JobOf.{OrdersOf, NeedsOf, OffersOf, JobOf}
 use Rattle.tqd_top.specs.Scenarios.{AreStated}
@@ -64,6 +64,17 @@ IsUnreadWithTree absent_is_empty old new files tree Tree =
 IsUnreadWithTree absent_is_empty old new files tree Old = ⊥
 IsUnreadWithTree absent_is_empty old new files tree (Scenario at) = ⊥
 
+-- of those and of an old tree
+abbrev pub IsUnreadWithOld : Bool → State → State → FilesNamed → Name → InputFile → Type 0
+IsUnreadWithOld absent_is_empty old new files name Orders = IsUnread absent_is_empty old new files Orders
+IsUnreadWithOld absent_is_empty old new files name Bill = IsUnread absent_is_empty old new files Bill
+IsUnreadWithOld absent_is_empty old new files name Offers = IsUnread absent_is_empty old new files Offers
+IsUnreadWithOld absent_is_empty old new files name Terms = IsUnread absent_is_empty old new files Terms
+IsUnreadWithOld absent_is_empty old new files name Tree = ⊥
+IsUnreadWithOld absent_is_empty old new files name Old =
+    (read : JobRead) × JobOf absent_is_empty old.world files (Ok read) × FailsAt old new name
+IsUnreadWithOld absent_is_empty old new files name (Scenario at) = ⊥
+
 -- of the TERMS words of `scenarios`, after these offers: the file of a word, and the words before it state jobs
 pub record IsUnreadTerms (absent_is_empty : Bool) (old new : State) (read : OffersRead) (terms : List (Option Name))
     (file : InputFile) : Type 0 where
@@ -91,6 +102,8 @@ IsUnreadBy absent_is_empty old new (ToSolve files tree workers) file = IsUnread 
 IsUnreadBy absent_is_empty old new (ToCheck files tree) file = IsUnreadWithTree absent_is_empty old new files tree file
 IsUnreadBy absent_is_empty old new (ToNeed orders bill) file = IsUnreadBill absent_is_empty old new orders bill file
 IsUnreadBy absent_is_empty old new (ToMake seed goods suppliers) file = ⊥
+IsUnreadBy absent_is_empty old new (ToRequote files name tree) file =
+    IsUnreadWithOld absent_is_empty old new files name file
 IsUnreadBy absent_is_empty old new (ToTabulate files workers) file = IsUnread absent_is_empty old new files file
 IsUnreadBy absent_is_empty old new (ToBreakEven files supplier) file = IsUnread absent_is_empty old new files file
 IsUnreadBy absent_is_empty old new (ToCompare files terms workers) file =

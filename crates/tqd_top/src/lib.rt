@@ -2,10 +2,11 @@
 //!
 //! `run` is the call that the program makes; `run_plain` does the same on the caller's thread alone. Both promise one
 //! record, `IsProgramRun` of specs/Headline.antt, which has one clause for each answer. Those of Solved, Infeasible,
-//! Accepted and AcceptedNone speak of a least and of a feasible purchase and of the checker's verdict alone. Those of the
-//! other answers cite specs/Causes.antt, why an answer comes, and specs/Output.antt, what is printed and saved. The rest
-//! says which answers come where no device fails, and what holds of every answer. The words are read by command_words. What
-//! stands in specs/Inner is of the steps, and no promise.
+//! Accepted and AcceptedNone speak of a least and of a feasible purchase and of the checker's verdict alone, and of the
+//! graft of the old tree besides, where the answer is that of a `requote`. Those of the other answers cite
+//! specs/Causes.antt, why an answer comes, and specs/Output.antt, what is printed and saved. The rest says which
+//! answers come where no device fails, and what holds of every answer. The words are read by command_words. What stands
+//! in specs/Inner is of the steps, and no promise.
 #![tactic(auto)]
 
 mod answer;
@@ -19,6 +20,7 @@ mod kept;
 mod make;
 mod needs;
 mod no_value;
+mod old_tree;
 mod optimum;
 mod program;
 mod reading;

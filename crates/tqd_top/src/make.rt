@@ -8,6 +8,7 @@ use crate::answer::{Answer, Reply};
 use crate::solution::search;
 use order_gen::make_job;
 use plan_report::summary_text;
+use search_run::NoGate;
 use std::alloc::Global;
 use tqd_base::Memory;
 
@@ -21,7 +22,7 @@ pub(crate) fn make(alloc: Global, seed: u64, goods: u64, suppliers: u64) -> Resu
     ensures text { IfOk result (λ reply. SumsUp seed goods suppliers reply.text.items) }
 {
     let job = make_job(alloc, seed, goods, suppliers)?;
-    let done = search(alloc, &job)?;
+    let done = search(alloc, &job, &NoGate)?;
     // A made job has a feasible purchase.
     let Some((_, cost)) = done.plan else {
         unreachable!()

@@ -10,11 +10,11 @@ use crate::compare::{compare, compare_by};
 use crate::cut::cut;
 use crate::make::make;
 use crate::needs::needs;
-use crate::solve::{solve, solve_by};
+use crate::solve::{requote, solve, solve_by};
 use crate::text::or_no_reply;
 use crate::winners::{winners, winners_by};
 use command_words::{Command, read_words, usage_text};
-use search_run::Gate;
+use search_run::{Gate, NoGate};
 use std::alloc::Global;
 use std::sync::Wait;
 use std::thread::Threads;
@@ -22,7 +22,12 @@ use tqd_base::{Desk, DeskStop};
 use verdict_laws::laws;
 
 // The reply that the words and the files call for; its tree is saved where the words ask for that.
-fn reply_to<D: Desk>(alloc: Global, words: &[String], desk: &mut D) -> Result<Reply, NoReply>
+fn reply_to<D: Desk, G: Gate>(
+    alloc: Global,
+    words: &[String],
+    desk: &mut D,
+    gate: &G,
+) -> Result<Reply, NoReply>
     requires { IsIdle (D.state desk.old).world }
     ensures { Replies D.absent_is_empty (D.state desk.old) (D.state desk.new) (map string_bytes words.now) result }
 {
@@ -34,7 +39,7 @@ fn reply_to<D: Desk>(alloc: Global, words: &[String], desk: &mut D) -> Result<Re
         });
     };
     match command {
-        Command::Solve { files, tree, .. } => solve(alloc, desk, &files, tree),
+        Command::Solve { files, tree, .. } => solve(alloc, desk, &files, tree, gate),
         Command::Check { files, tree } => or_no_reply(check(alloc, desk, &files, tree)),
         Command::Needs { orders, bill } => or_no_reply(needs(alloc, desk, orders, bill)),
         Command::Make {
@@ -42,6 +47,7 @@ fn reply_to<D: Desk>(alloc: Global, words: &[String], desk: &mut D) -> Result<Re
             goods,
             suppliers,
         } => or_no_reply(make(alloc, seed, goods, suppliers)),
+        Command::Requote { files, old, tree } => requote(alloc, desk, &files, old, tree, gate),
         Command::Scenarios { files, terms, .. } => {
             or_no_reply(compare(alloc, desk, &files, terms))
         }
@@ -112,23 +118,33 @@ fn end<D: Desk>(desk: &mut D, reply: Result<Reply, NoReply>) -> Ended
 /// `solve ORDERS BILL OFFERS TERMS TREE` finds a least purchase of the job that the files state, writes the tree that
 /// certifies it, and prints it. `check ORDERS BILL OFFERS TERMS TREE` says what the text of a tree shows of the job.
 /// `needs ORDERS BILL` prints what is needed of each part that has to be bought. `make SEED GOODS SUPPLIERS` makes a
-/// job, solves it and sums it up. `scenarios ORDERS BILL OFFERS TERMS..` prints what a least purchase costs with each
-/// of 1 to 16 files of terms, `winners ORDERS BILL OFFERS TERMS` what it costs with each greatest number of winners, and
-/// `break-even ORDERS BILL OFFERS TERMS SUPPLIER` the least cut of a supplier's prices that lowers the least cost. Words
-/// that are of no form print the usage. Every answer but WriteFault and Memory prints its text as the last act; if that
-/// fails, the answer is WriteFault(Out). No file changes but the TREE of `solve`. The desk is handed in without an open
-/// slot, and has none at the end.
+/// job, solves it and sums it up. `requote ORDERS BILL OFFERS TERMS OLD TREE` does what `solve` does, from the old tree
+/// of OLD, which may be of another job and may be the file TREE. `scenarios ORDERS BILL OFFERS TERMS..` prints what a
+/// least purchase costs with each of 1 to 16 files of terms, `winners ORDERS BILL OFFERS TERMS` what it costs with each
+/// greatest number of winners, and `break-even ORDERS BILL OFFERS TERMS SUPPLIER` the least cut of a supplier's prices
+/// that lowers the least cost. Words that are of no form print the usage. Every answer but WriteFault and Memory prints
+/// its text as the last act; if that fails, the answer is WriteFault(Out). No file changes but the TREE of `solve` and
+/// of `requote`. The desk is handed in without an open slot, and has none at the end.
 pub fn run_plain<D: Desk>(alloc: Global, words: &[String], desk: &mut D) -> Ended
     requires { IsIdle (D.state desk.old).world }
     ensures { IsProgramRun D.absent_is_empty (D.state desk.old) (D.state desk.new) (map string_bytes words.now) result }
 {
-    let reply = reply_to(alloc, words, desk);
+    let reply = reply_to(alloc, words, desk, &NoGate);
     end(desk, reply)
 }
 
-/// Runs the command that the words give, as [`run_plain`] does, but that the workers of `solve --workers N`, `scenarios ..
-/// --workers N` and `winners .. --workers N`, where they are two or more, are threads. Those of `solve` pass the gate
-/// before each box. Only then may it wait; what it promises then holds if it returns.
+// Runs the command on the caller's thread, which passes the gate before each box of a `solve` and of a `requote`.
+fn run_alone<D: Desk, G: Gate>(alloc: Global, words: &[String], desk: &mut D, gate: &G) -> Ended
+    requires { IsIdle (D.state desk.old).world }
+    ensures { IsProgramRun D.absent_is_empty (D.state desk.old) (D.state desk.new) (map string_bytes words.now) result }
+{
+    let alone = reply_to(alloc, words, desk, gate);
+    end(desk, alone)
+}
+
+/// Runs the command that the words give, as [`run_plain`] does, but that the workers of `solve --workers N`,
+/// `scenarios .. --workers N` and `winners .. --workers N`, where they are two or more, are threads. Only then may it wait;
+/// what it promises then holds if it returns. Whoever works on a box of a `solve` or a `requote` passes the gate before it.
 pub fn run<R: Threads + Wait + Sync, D: Desk, G: Gate + Sync>(
     rt: &R,
     alloc: Global,
@@ -167,6 +183,6 @@ pub fn run<R: Threads + Wait + Sync, D: Desk, G: Gate + Sync>(
             let listed = winners_by(rt, alloc, desk, &files, number);
             end(desk, or_no_reply(listed))
         }
-        _ => run_plain(alloc, words, desk),
+        _ => run_alone(alloc, words, desk, gate),
     }
 }

@@ -35,16 +35,17 @@ pub(crate) trait Source: Drop + Sized {
         ensures { Yields (stated self bytes.items) result };
 }
 
-// The bytes of a file, at most 16,777,216.
-fn read_bytes<D: Desk>(
+/// The bytes of a file, at most `limit`. A fault of the device comes before that the file is too long.
+pub(crate) fn read_bytes<D: Desk>(
     alloc: Global,
     desk: &mut D,
     file: InputFile,
     name: &str,
+    limit: u64,
 ) -> Result<Vec<u8>, NoValue>
-    ensures { InputGives D.absent_is_empty (D.state desk.old) (D.state desk.new) file name.now result }
+    ensures { InputGives D.absent_is_empty (D.state desk.old) (D.state desk.new) file name.now limit result }
 {
-    match read_all(alloc, desk, name, FILE_MAX) {
+    match read_all(alloc, desk, name, limit) {
         Ok(bytes) => Ok(bytes),
         Err(ReadStop::Size) => Err(bad(alloc, FileFault::Size(file))),
         Err(ReadStop::Fault) => Err(NoValue::Unread(file)),
@@ -52,8 +53,8 @@ fn read_bytes<D: Desk>(
     }
 }
 
-/// What the file of a name states. A fault of the device comes first, then that the file is too long, then a fault of
-/// its form.
+/// What the file of a name states. A fault of the device comes first, then that the file is longer than 16,777,216
+/// bytes, then a fault of its form.
 pub(crate) fn read_file<D: Desk, S: Source>(
     alloc: Global,
     desk: &mut D,
@@ -66,6 +67,6 @@ pub(crate) fn read_file<D: Desk, S: Source>(
         (IsFileUnread (D.state desk.old) (D.state desk.new) (S.file_of source) name.now)
         (D.state desk.old) (D.state desk.new) result }
 {
-    let bytes = read_bytes(alloc, desk, source.file(), name)?;
+    let bytes = read_bytes(alloc, desk, source.file(), name, FILE_MAX)?;
     source.read(alloc, bytes)
 }

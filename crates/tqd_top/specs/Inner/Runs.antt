@@ -1,5 +1,5 @@
 -- What the two steps of a command do: to find the answer, and to print its text.
-use Rattle.std.specs.Prelude.{ℕ, ◌≡◌, ◌≤◌, ◌⊎◌, Bool, List, length, take, IfOk, Result, Ok, Err}
+use Rattle.std.specs.Prelude.{ℕ, ◌≡◌, ◌≤◌, ◌⊎◌, Bool, List, length, take, Option, IfOk, Result, Ok, Err}
 use Rattle.tqd_base.specs.declared.memory.Memory.{Memory as NoMemory}
 use Rattle.tqd_base.specs.World.{World, State, Name, Bytes, NeverFall, Rose, print}
 use Rattle.tqd_base.specs.Calls.{Rests}
@@ -14,12 +14,14 @@ use Rattle.tqd_top.specs.declared.answer.Reply.{Reply}
 use Rattle.tqd_top.specs.declared.no_value.NoValue.{NoValue}
 use Rattle.tqd_top.specs.declared.no_value.NoValue.TheVariants.{Bad, Unread, Memory as WantsMemoryToo}
 use Rattle.tqd_top.specs.declared.reading.JobRead.{JobRead}
-use Rattle.command_words.specs.Words.{Asked, FilesNamed, ToCheck}
+use Rattle.tqd_top.specs.declared.old_tree.RequoteRead.{RequoteRead}
+use Rattle.command_words.specs.Words.{Asked, FilesNamed, ToCheck, ToRequote}
 use Rattle.tqd_top.specs.Inner.Steps.{IsStill}
 use Rattle.tqd_top.specs.Shows.{Shows}
 use Rattle.tqd_top.specs.Causes.{FailsOnlyInputs, IsFaultOf}
 use Rattle.tqd_top.specs.Output.{IsReply, IsTreeCut}
 use Rattle.tqd_top.specs.JobOf.{IsJobOutcome}
+use Rattle.tqd_top.specs.Requotes.{IsOldText}
 use Rattle.tqd_top.specs.Unread.{IsUnreadBy}
 
 -- what halted the reading of a command's files
@@ -41,6 +43,19 @@ abbrev pub VerdictGives : Bool → State → State → FilesNamed → Name → R
 VerdictGives absent_is_empty old new files tree (Ok shown) =
     Rests old new × Checks absent_is_empty old.world files tree shown
 VerdictGives absent_is_empty old new files tree (Err halt) = StopsBy absent_is_empty old new (ToCheck files tree) halt
+
+-- the files state this job, and the file of the old tree has this text
+pub record IsRequoteRead (absent_is_empty : Bool) (w : World) (files : FilesNamed) (name : Name)
+    (read : RequoteRead) : Type 0 where
+  pub stated : IsJobOutcome absent_is_empty w files (Ok read.job)
+  pub is_old : IsOldText absent_is_empty w name read.old
+
+-- reading them, whether a file is named for the new tree or not
+abbrev pub RequoteGives : Bool → State → State → FilesNamed → Name → Result RequoteRead NoValue → Type 0
+RequoteGives absent_is_empty old new files name (Ok read) =
+    Rests old new × IsRequoteRead absent_is_empty old.world files name read
+RequoteGives absent_is_empty old new files name (Err halt) =
+    (tree : Option Name) → StopsBy absent_is_empty old new (ToRequote files name tree) halt
 
 -- what was found where the files gave no value
 abbrev pub ReplyWithoutValue : NoValue → Result Reply NoMemory → Type 0

@@ -9,7 +9,9 @@ use Rattle.tqd_instance.specs.Purchase.{Purchase}
 use Rattle.tqd_instance.specs.Least.{HasNoPurchase}
 use Rattle.bound_tree.specs.BoxTree.{BoxTree, nodes_of}
 use Rattle.search_book.specs.declared.finish.Finished.{Finished}
-use Rattle.tqd_top.specs.Certificate.{Certifies, IsLeastPlan, certificate_text}
+use Rattle.search_book.specs.BookState.{BookState}
+use Rattle.search_book.specs.TreeOf.{IsTreeOf}
+use Rattle.tqd_top.specs.Certificate.{Certifies, GrowsFrom, IsLeastPlan, certificate_text}
 
 -- a least plan with its cost, or that no purchase is feasible
 abbrev pub IsSolution : Job → Option (Plan × ℕ) → Type 0
@@ -26,6 +28,16 @@ pub record IsFinished (job : Job) (done : Finished) : Type 0 where
   pub tree : BoxTree
   pub certifies : Certifies job (bought_by done.plan) tree
   pub nodes_are : done.tree ≡ nodes_of tree
+
+-- what a book in this state hands out: such a search, whose tree is that of the state
+pub record IsFinishOf (s : BookState) (done : Finished) : Type 0 where
+  pub finished : IsFinished s.job done
+  pub is_tree : IsTreeOf s finished.tree
+
+-- a search that is finished, and whose tree grew from an old text where there is one
+pub record IsFinishedFrom (job : Job) (from : Option Bytes) (done : Finished) : Type 0 where
+  pub finished : IsFinished job done
+  pub grows : GrowsFrom job from finished.tree
 
 -- the text that is saved of it
 abbrev pub certificate_of : (job : Job) (done : Finished) → IsFinished job done → Bytes

@@ -25,10 +25,10 @@ abbrev pub solution_answer : Option (Plan × ℕ) → Answer
 solution_answer None = Infeasible
 solution_answer (Some best) = Solved best.0 best.1
 
-abbrev pub SolveGives : JobRead → State → State → Option Name → Result Reply NoReply → Type 0
-SolveGives read old new file (Ok reply) =
-    IsSteady old new × IsSolved read old.world new.world file reply.answer reply.text.items
-SolveGives read old new file (Err Tree) =
-    IsSteady old new × Rose old.faults.writing new.faults.writing × IsCut read old.world new.world file
-SolveGives read old new file (Err Memory) =
-    IsSteady old new × ((new.world ≡ old.world) ⊎ IsCut read old.world new.world file)
+abbrev pub SolveGives : JobRead → Option Bytes → State → State → Option Name → Result Reply NoReply → Type 0
+SolveGives read from old new file (Ok reply) =
+    IsSteady old new × IsSolved read from old.world new.world file reply.answer reply.text.items
+SolveGives read from old new file (Err Tree) =
+    IsSteady old new × Rose old.faults.writing new.faults.writing × IsCut read from old.world new.world file
+SolveGives read from old new file (Err Memory) =
+    IsSteady old new × ((new.world ≡ old.world) ⊎ IsCut read from old.world new.world file)

@@ -1,8 +1,8 @@
 -- What a step that reads files does to the state of a desk, by cases on its answer.
-use Rattle.std.specs.Prelude.{ℕ, ◌≡◌, ◌<◌, ◌≤◌, Bool, length, IsSome, Result, Ok, Err, Vec}
+use Rattle.std.specs.Prelude.{ℕ, ◌≡◌, ◌≤◌, Bool, length, IsSome, Result, Ok, Err, Vec}
 use Rattle.std.specs.Global.{Global}
-use Rattle.tqd_base.specs.declared.limits.TheConstants.{FILE_MAX}
 use Rattle.tqd_base.specs.World.{State, Name, Bytes, NeverFall}
+use Rattle.tqd_base.specs.ReadAll.{IsTooLong}
 use Rattle.tqd_base.specs.Calls.{Rests}
 use Rattle.plan_report.specs.declared.file.InputFile.{InputFile}
 use Rattle.plan_report.specs.declared.fault.FileFault.TheVariants.{Size}
@@ -51,18 +51,13 @@ pub record IsFileUnread (old new : State) (file : InputFile) (name : Name) (fail
   pub is_file : failed ≡ file
   pub fails : FailsAt old new name
 
--- the file has more bytes than are read
-pub record IsLong (absent_is_empty : Bool) (old : State) (name : Name) : Type 0 where
-  pub bytes : Bytes
-  pub reads : ReadsAs absent_is_empty old.world name bytes
-  pub long : FILE_MAX < length bytes
-
--- reading the bytes of one file
-abbrev pub InputGives : Bool → State → State → InputFile → Name → Result (Vec ℕ Global) NoValue → Type 0
-InputGives absent_is_empty old new file name (Ok bytes) =
-    Rests old new × ReadsAs absent_is_empty old.world name bytes.items × (length bytes.items ≤ FILE_MAX)
-InputGives absent_is_empty old new file name (Err (Bad fault text)) = Rests old new
-    × (record { fault = fault; text = text.items } ≡ plainly (Size file)) × IsLong absent_is_empty old name
-InputGives absent_is_empty old new file name (Err (Unread failed)) =
+-- reading the bytes of one file, at most so many
+abbrev pub InputGives : Bool → State → State → InputFile → Name → ℕ → Result (Vec ℕ Global) NoValue → Type 0
+InputGives absent_is_empty old new file name limit (Ok bytes) =
+    Rests old new × ReadsAs absent_is_empty old.world name bytes.items × (length bytes.items ≤ limit)
+InputGives absent_is_empty old new file name limit (Err (Bad fault text)) = Rests old new
+    × (record { fault = fault; text = text.items } ≡ plainly (Size file))
+    × IsTooLong absent_is_empty old.world name limit
+InputGives absent_is_empty old new file name limit (Err (Unread failed)) =
     IsStill old new × IsFileUnread old new file name failed
-InputGives absent_is_empty old new file name (Err Memory) = Rests old new
+InputGives absent_is_empty old new file name limit (Err Memory) = Rests old new

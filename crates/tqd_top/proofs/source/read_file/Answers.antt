@@ -2,6 +2,7 @@
 use Rattle.std.proofs.Common.{subst}
 use Rattle.std.proofs.lemmas.Result.{err_from_is_err_and}
 use Rattle.std.specs.Prelude.{Err}
+use Rattle.tqd_base.specs.declared.limits.TheConstants.{FILE_MAX}
 use Rattle.plan_report.specs.declared.file.InputFile.{InputFile}
 use Rattle.tqd_top.specs.Inner.Steps.{InputGives, IsFileUnread}
 use Rattle.tqd_top.proofs.Readings.{input_stops, input_read}
@@ -13,7 +14,7 @@ returns-in_err-bytes g c =
     let a = g.D.Desk.absent_is_empty in
     let old = g.D.Desk.state c.args.desk.now in
     let new = g.D.Desk.state c.read_bytes.new.desk in
-    let gives = subst (λ (file : InputFile). InputGives a old new file c.args.name.now (Err c.in_err-bytes.field-0.0)) c.file.ensures c.in_err-bytes.ensures in
+    let gives = subst (λ (file : InputFile). InputGives a old new file c.args.name.now FILE_MAX (Err c.in_err-bytes.field-0.0)) c.file.ensures c.in_err-bytes.ensures in
     rw (p.1, p.2) (input_stops _ _ _ _ _ (g.S.Source.stated c.args.source) _ gives)
 
 pub returns : goal.returns
