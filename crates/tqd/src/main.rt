@@ -2,8 +2,11 @@
 //! of the answer.
 #![tactic(auto)]
 
-use search_run::NoGate;
+mod pulse;
+
+use pulse::Pulse;
 use std::env;
+use std::io::{Error, ErrorKind};
 use std::process::ExitCode;
 use tqd_base::RealDesk;
 use tqd_top::run;
@@ -14,10 +17,27 @@ const NO_MEMORY: u8 = 7;
 /// The status where the runtime does not give the words, as it may for a word that is not UTF-8. No answer has it.
 const NO_WORDS: u8 = 9;
 
+/// The status where the runtime gives no words.
+fn status_without_words(error: &Error) -> u8 {
+    match error.kind() {
+        ErrorKind::OutOfMemory => NO_MEMORY,
+        _ => NO_WORDS,
+    }
+}
+
+/// Whether the launcher, or whoever calls the program, asks for a sign of life.
+fn wants_pulse(rt: &HostRuntime) -> bool {
+    match env::var(rt, "TQD_PROGRESS") {
+        Ok(word) => word.as_str() == "1",
+        Err(_) => false,
+    }
+}
+
 fn main(rt: HostRuntime) -> ExitCode {
     let alloc = rt.alloc();
-    let Ok(args) = env::args(&rt) else {
-        return ExitCode::from(NO_WORDS);
+    let args = match env::args(&rt) {
+        Ok(args) => args,
+        Err(error) => return ExitCode::from(status_without_words(&error)),
     };
     // The first is the program's name.
     let words: Result<Vec<String>, _> = args.skip(1).collect(alloc);
@@ -25,6 +45,8 @@ fn main(rt: HostRuntime) -> ExitCode {
         return ExitCode::from(NO_MEMORY);
     };
     let mut desk = RealDesk::new(&rt, alloc);
-    let ended = run(&rt, alloc, &words, &mut desk, &NoGate);
+    let pulse = Pulse::new(&rt, wants_pulse(&rt));
+    let ended = run(&rt, alloc, &words, &mut desk, &pulse);
+    pulse.end();
     ExitCode::from(ended.status)
 }
