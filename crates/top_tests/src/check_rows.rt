@@ -15,7 +15,7 @@ const NO_TERMS: &str = "kind,supplier,part,low,high\n";
 const TREE: &str = "tqd-tree 1\nplan 8000000 1\nbuy 0 0 100\nbound 80000 0 0\n";
 
 /// Trees on an order of 100 units: those that are right, and each with something wrong.
-pub(crate) const TREES: [Row; 15] = [
+pub(crate) const TREES: [Row<'static>; 15] = [
     Row {
         files: &[
             ("o", HUNDRED),
@@ -206,7 +206,7 @@ pub(crate) const TREES: [Row; 15] = [
 ];
 
 /// Trees whose lines are of no form, and trees on two goods.
-pub(crate) const FORMS: [Row; 12] = [
+pub(crate) const FORMS: [Row<'static>; 12] = [
     Row {
         files: &[
             ("o", HUNDRED),

@@ -8,7 +8,7 @@ const OFFERS: &str =
     "supplier,from,part,price\nA,1,x,1.00\nA,1,y,2.00\nA,150,x,0.90\nA,150,y,1.50\nB,1,x,0.95\nB,1,y,1.60\n";
 
 /// The cut that is found, and what a least purchase costs without it and with it.
-pub(crate) const CUTS: [Row; 8] = [
+pub(crate) const CUTS: [Row<'static>; 8] = [
     // with a cut of 57 thousandths all from B costs 165.025000
     Row {
         files: &[("o", ORDERS), ("f", OFFERS)],
@@ -87,7 +87,7 @@ pub(crate) const CUTS: [Row; 8] = [
 ];
 
 /// Where there is no cut to be told.
-pub(crate) const NO_CUTS: [Row; 7] = [
+pub(crate) const NO_CUTS: [Row<'static>; 7] = [
     Row {
         files: &[("o", ORDERS), ("f", OFFERS)],
         lines: &["break-even o - f - C", "break-even o - f - a"],
@@ -155,7 +155,7 @@ pub(crate) const NO_CUTS: [Row; 7] = [
 ];
 
 /// Cuts of which a file cannot be read, or the output not be written.
-pub(crate) const FAILING_CUTS: [FailingRow; 2] = [
+pub(crate) const FAILING_CUTS: [FailingRow<'static>; 2] = [
     FailingRow {
         call: DeskCall::Open,
         nth: 1,

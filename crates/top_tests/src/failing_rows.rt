@@ -7,7 +7,7 @@ const OFFERS: &str = "supplier,from,part,price\nA,1,r,0.10\nA,100,r,0.08\n";
 const HUNDRED: &str = "product,quantity\nr,100\n";
 
 /// Runs in which a call of the desk fails.
-pub(crate) const FAILING: [FailingRow; 13] = [
+pub(crate) const FAILING: [FailingRow<'static>; 13] = [
     FailingRow {
         call: DeskCall::Open,
         nth: 1,

@@ -1,9 +1,13 @@
-//! Two workers are in boxes at once, and one of them came by a ticket of the other's lane.
+//! One worker passes the gate, and two workers are in boxes at once, one of them by a ticket of the other's lane.
 use crate::runs::{empty_desk, set, words_of};
 use search_run::{Gate, Way};
+use std::alloc::Global;
+use std::process::Abort;
+use std::sync::Wait;
 use std::sync::atomic::{AtomicBool, AtomicU64, Ordering};
 use std::test::Fail;
 use std::thread;
+use std::thread::Threads;
 use tqd_top::run;
 
 /// How often the worker that is held looks for another one.
@@ -56,7 +60,7 @@ fn takes(place: &AtomicU64, mark: u64) -> bool {
 }
 
 impl Gate for Turnstile {
-    fn enter(&self, worker: u32, number: u64, way: Way) {
+    fn enter(&self, worker: u32, number: u64, way: Way, _best: Option<u128>) {
         let mark = u64::from(worker) + 1;
         if number == 0 {
             return;
@@ -68,6 +72,8 @@ impl Gate for Turnstile {
             self.note(way);
         }
     }
+
+    fn leave(&self) {}
 }
 
 const ORDERS: &str = "product,quantity\nx,100\ny,50\n";
@@ -81,18 +87,57 @@ const TEXT: &str =
     "solved\t175.050000\nsupplier\tA\t1\t1\t1.000000\nbuy\tx\t1\t1.000000\t1.000000\nsupplier\tB\t149\t1\t174.050000\n\
      buy\tx\t99\t0.950000\t94.050000\nbuy\ty\t50\t1.600000\t80.000000\n";
 
-#[test]
-fn two_workers_are_in_boxes_at_once(rt: HostRuntime) -> Result<(), Fail> {
-    let alloc = rt.alloc();
+/// Solves the job before a gate.
+fn solve_before<R: Threads + Wait + Abort + Sync, G: Gate + Sync>(
+    rt: &R,
+    alloc: Global,
+    line: &str,
+    gate: &G,
+) -> Result<(), Fail> {
     let mut desk = empty_desk(alloc)?;
     set(&mut desk, "o", ORDERS).map_err(|_| "memory")?;
     set(&mut desk, "f", OFFERS).map_err(|_| "memory")?;
     set(&mut desk, "t", TERMS).map_err(|_| "memory")?;
-    let words = words_of(alloc, "solve o - f t tree --workers 2")?;
-    let gate = Turnstile::new();
-    let ended = run(&rt, alloc, &words, &mut desk, &gate);
+    let words = words_of(alloc, line)?;
+    let ended = run(rt, alloc, &words, &mut desk, gate);
     assert_eq!(rt; ended.status, 0);
     assert_eq!(rt; desk.output(), TEXT.as_bytes());
+    Ok(())
+}
+
+/// A gate that counts the boxes, and how often none was left.
+#[derive(Drop)]
+struct Turns {
+    boxes: AtomicU64,
+    ends: AtomicU64,
+}
+
+impl Gate for Turns {
+    fn enter(&self, _worker: u32, _number: u64, _way: Way, _best: Option<u128>) {
+        let _before = self.boxes.fetch_add(1, Ordering::SeqCst);
+    }
+
+    fn leave(&self) {
+        let _before = self.ends.fetch_add(1, Ordering::SeqCst);
+    }
+}
+
+#[test]
+fn one_worker_passes_the_gate(rt: HostRuntime) -> Result<(), Fail> {
+    let gate = Turns {
+        boxes: AtomicU64::new(0),
+        ends: AtomicU64::new(0),
+    };
+    solve_before(&rt, rt.alloc(), "solve o - f t tree", &gate)?;
+    assert!(rt; gate.boxes.load(Ordering::SeqCst) != 0, "nobody came");
+    assert_eq!(rt; gate.ends.load(Ordering::SeqCst), 1);
+    Ok(())
+}
+
+#[test]
+fn two_workers_are_in_boxes_at_once(rt: HostRuntime) -> Result<(), Fail> {
+    let gate = Turnstile::new();
+    solve_before(&rt, rt.alloc(), "solve o - f t tree --workers 2", &gate)?;
     assert!(rt; gate.other.load(Ordering::SeqCst) != 0, "nobody else came");
     assert!(rt; gate.stolen.load(Ordering::SeqCst), "no ticket was stolen");
     assert!(rt;

@@ -3,7 +3,7 @@ ghost use Rattle.std.specs.Prelude.{IfOk};
 ghost use Rattle.tqd_base.specs.World.{IsIdle};
 ghost use Rattle.tqd_base.specs.SureState.{sure_state};
 
-use crate::runs::{empty_desk, ran, set, words_of};
+use crate::runs::{Row, check_rows, empty_desk, ran, set, words_of};
 use command_words::usage_text;
 use search_run::NoGate;
 use std::alloc::Global;
@@ -13,30 +13,6 @@ use std::test::Fail;
 use std::thread::Threads;
 use tqd_base::{DeskCall, SureDesk};
 use tqd_top::{run, run_plain};
-
-// Runs a line on a desk with these orders `o` and this file `f`, by both calls.
-fn check_files<R: Threads + Wait + Abort + Sync>(
-    rt: &R,
-    alloc: Global,
-    orders: &str,
-    other: &str,
-    line: &str,
-    status: u8,
-    text: &str,
-) -> Result<(), Fail> {
-    for plain in [true, false] {
-        let mut desk = empty_desk(alloc)?;
-        set(&mut desk, "o", orders).map_err(|_| "memory")?;
-        set(&mut desk, "f", other).map_err(|_| "memory")?;
-        assert_eq!(rt;
-            ran(rt, alloc, plain, &mut desk, line)?,
-            status,
-            "at {line}"
-        );
-        assert_eq!(rt; desk.output(), text.as_bytes(), "at {line}");
-    }
-    Ok(())
-}
 
 const OFFERS: &str = "supplier,from,part,price\nA,1,r,0.10\nA,100,r,0.08\n";
 
@@ -48,59 +24,26 @@ fn refuses_too_many_goods(rt: HostRuntime) -> Result<(), Fail> {
         let line = format!(in alloc; "p{n},1\n")?;
         orders.push_str(&line)?;
     }
-    let text = "bad input: job: 1001 goods, at most 1000\n";
-    check_files(&rt, alloc, &orders, OFFERS, "solve o - f - -", 3, text)
+    let row = Row {
+        files: &[("o", orders.as_str()), ("f", OFFERS)],
+        lines: &["solve o - f - -"],
+        status: 3,
+        output: "bad input: job: 1001 goods, at most 1000\n",
+    };
+    check_rows(&rt, alloc, &[row], 65_536)
 }
 
 #[test]
 fn refuses_a_file_that_is_too_long(rt: HostRuntime) -> Result<(), Fail> {
     let alloc = rt.alloc();
     let long = "x".repeat(alloc, 16_777_217)?;
-    let text = "bad input: orders: more than 16777216 bytes\n";
-    check_files(&rt, alloc, &long, OFFERS, "solve o - f - -", 3, text)
-}
-
-// The lines of a chain of parts p0, p1, .., each with so many units of the next.
-fn chain(alloc: Global, lines: u32, units: u32) -> Result<String, Fail> {
-    let mut bill = String::from_str(alloc, "assembly,part,quantity\n")?;
-    for n in 0..lines {
-        let next = n + 1;
-        let line = format!(in alloc; "p{n},p{next},{units}\n")?;
-        bill.push_str(&line)?;
-    }
-    Ok(bill)
-}
-
-/// The lines of a chain, the units, a last line, the status, and what is printed.
-const CHAINS: [(u32, u32, &str, u8, &str); 4] = [
-    (19_999, 1, "", 0, "need\tp19999\t1\n"),
-    (
-        19_999,
-        1,
-        "p19999,p0,1\n",
-        3,
-        "bad input: bill: circle through p0\n",
-    ),
-    (
-        27,
-        2,
-        "",
-        3,
-        "bad input: bill: need of p27 above 100000000\n",
-    ),
-    (26, 2, "", 0, "need\tp26\t67108864\n"),
-];
-
-#[test]
-fn follows_long_chains(rt: HostRuntime) -> Result<(), Fail> {
-    let alloc = rt.alloc();
-    let orders = "product,quantity\np0,1\n";
-    for (lines, units, last, status, text) in CHAINS {
-        let mut bill = chain(alloc, lines, units)?;
-        bill.push_str(last)?;
-        check_files(&rt, alloc, orders, &bill, "needs o f", status, text)?;
-    }
-    Ok(())
+    let row = Row {
+        files: &[("o", long.as_str()), ("f", OFFERS)],
+        lines: &["solve o - f - -"],
+        status: 3,
+        output: "bad input: orders: more than 16777216 bytes\n",
+    };
+    check_rows(&rt, alloc, &[row], 65_536)
 }
 
 // Whether a run writes the beginning of the tree to a file, where a call may fail.

@@ -8,15 +8,23 @@ mod check_rows;
 #[cfg(test)]
 mod cut_rows;
 #[cfg(test)]
+mod devices;
+#[cfg(test)]
 mod failing_rows;
 #[cfg(test)]
 mod gates;
+#[cfg(test)]
+mod hostile;
 #[cfg(test)]
 mod large;
 #[cfg(test)]
 mod list_rows;
 #[cfg(test)]
 mod made;
+#[cfg(test)]
+mod requote_rows;
+#[cfg(test)]
+mod requoted;
 #[cfg(test)]
 mod runs;
 #[cfg(test)]

@@ -6,11 +6,17 @@ const PRODUCTS: &str = "product,quantity\npump,40\nvalve,25\n";
 const BILL: &str =
     "assembly,part,quantity\npump,seal,2\npump,bolt,8\npump,housing,1\nvalve,seal,1\nvalve,bolt,4\n";
 
-const USAGE: &str =
-    "usage: tqd solve ORDERS BILL OFFERS TERMS TREE [--workers N]\n       tqd check ORDERS BILL OFFERS TERMS TREE\n       tqd needs ORDERS BILL\n       tqd make SEED GOODS SUPPLIERS\n       tqd scenarios ORDERS BILL OFFERS TERMS.. [--workers N]\n       tqd winners ORDERS BILL OFFERS TERMS [--workers N]\n       tqd break-even ORDERS BILL OFFERS TERMS SUPPLIER\n";
+const USAGE: &str = "usage: tqd solve ORDERS BILL OFFERS TERMS TREE [--workers N]\n\
+    \x20      tqd check ORDERS BILL OFFERS TERMS TREE\n\
+    \x20      tqd needs ORDERS BILL\n\
+    \x20      tqd make SEED GOODS SUPPLIERS\n\
+    \x20      tqd requote ORDERS BILL OFFERS TERMS OLD TREE\n\
+    \x20      tqd scenarios ORDERS BILL OFFERS TERMS.. [--workers N]\n\
+    \x20      tqd winners ORDERS BILL OFFERS TERMS [--workers N]\n\
+    \x20      tqd break-even ORDERS BILL OFFERS TERMS SUPPLIER\n";
 
 /// The needs of orders and a bill.
-pub(crate) const NEEDS: [Row; 11] = [
+pub(crate) const NEEDS: [Row<'static>; 11] = [
     Row {
         files: &[("o", PRODUCTS), ("b", BILL)],
         lines: &["needs o b"],
@@ -107,7 +113,7 @@ pub(crate) const NEEDS: [Row; 11] = [
 ];
 
 /// Words that need no file: made jobs, and words of no form.
-pub(crate) const WORDS: [Row; 8] = [
+pub(crate) const WORDS: [Row<'static>; 8] = [
     Row {
         files: &[],
         lines: &["make 1 1 1"],

@@ -10,7 +10,7 @@ use std::thread::Threads;
 use tqd_instance::Job;
 
 /// The orders of what a job needs.
-fn orders_of(alloc: Global, job: &Job) -> Result<String, Fail> {
+pub(crate) fn orders_of(alloc: Global, job: &Job) -> Result<String, Fail> {
     let mut orders = String::from_str(alloc, "product,quantity\n")?;
     for k in 0..job.goods() {
         let need = job.need(k);
@@ -20,14 +20,22 @@ fn orders_of(alloc: Global, job: &Job) -> Result<String, Fail> {
     Ok(orders)
 }
 
-/// The prices in a segment of a supplier, one in a row.
-fn rows_of(rt: &impl Abort, alloc: Global, job: &Job, i: usize, j: u8) -> Result<String, Fail> {
+/// The prices in a segment of a supplier, one in a row: those of the job, or prices 1 % dearer.
+fn rows_of(
+    rt: &impl Abort,
+    alloc: Global,
+    job: &Job,
+    i: usize,
+    j: u8,
+    dearer: bool,
+) -> Result<String, Fail> {
     assert!(rt; i < job.suppliers());
     assert!(rt; 1 <= j && j <= job.segments(i));
     let from = job.low(i, j);
     let mut rows = String::new(alloc);
     for k in 0..job.goods() {
         let price = job.price(i, j, k);
+        let price = price.saturating_add(if dearer { price / 100 } else { 0 });
         let (whole, rest) = (price / 1_000_000, price % 1_000_000);
         let row = format!(in alloc; "s{i},{from},g{k},{whole}.{rest:06}\n")?;
         rows.push_str(&row)?;
@@ -35,11 +43,24 @@ fn rows_of(rt: &impl Abort, alloc: Global, job: &Job, i: usize, j: u8) -> Result
     Ok(rows)
 }
 
-/// The offers of four suppliers with three segments each.
-fn offers_of(rt: &impl Abort, alloc: Global, job: &Job) -> Result<String, Fail> {
+/// The offers of suppliers with three segments each, so many in all, of which the first may be dearer.
+pub(crate) fn offers_of(
+    rt: &impl Abort,
+    alloc: Global,
+    job: &Job,
+    segments: usize,
+    dearer: bool,
+) -> Result<String, Fail> {
     let mut offers = String::from_str(alloc, "supplier,from,part,price\n")?;
-    for at in 0..12 {
-        let rows = rows_of(rt, alloc, job, at / 3, (at % 3) as u8 + 1)?;
+    for at in 0..segments {
+        let rows = rows_of(
+            rt,
+            alloc,
+            job,
+            at / 3,
+            (at % 3) as u8 + 1,
+            dearer && at == 0,
+        )?;
         offers.push_str(&rows)?;
     }
     Ok(offers)
@@ -106,7 +127,10 @@ fn files_of(rt: &impl Abort, alloc: Global) -> Result<(String, String), Fail> {
     let Ok(job) = make_job(alloc, 7, 200, 4) else {
         return Err("memory".into());
     };
-    Ok((orders_of(alloc, &job)?, offers_of(rt, alloc, &job)?))
+    Ok((
+        orders_of(alloc, &job)?,
+        offers_of(rt, alloc, &job, 12, false)?,
+    ))
 }
 
 #[test]

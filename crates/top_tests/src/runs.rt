@@ -7,6 +7,7 @@ use crate::check_rows::{FORMS, TREES};
 use crate::cut_rows::{CUTS, FAILING_CUTS, NO_CUTS};
 use crate::failing_rows::FAILING;
 use crate::list_rows::{NEEDS, WORDS};
+use crate::requote_rows::{CHANGED, FAILING_REQUOTES, OLD_FAULTS, OLD_TREES};
 use crate::scenario_rows::{FAILING_SCENARIOS, SCENARIO_FAULTS, SCENARIOS};
 use crate::solve_rows::{EDGES, FAULTS, FILES, ONE_GOOD, TWO_GOODS, WORKERS};
 use crate::table_rows::{FAILING_TABLES, TABLES};
@@ -22,23 +23,23 @@ use tqd_top::{run, run_plain};
 /// Lines of words that are run one after the other on a desk with these files, each by its name and its text: each ends with
 /// the status, and together they print the output.
 #[derive(Clone, Copy)]
-pub(crate) struct Row {
-    pub(crate) files: &'static [(&'static str, &'static str)],
-    pub(crate) lines: &'static [&'static str],
+pub(crate) struct Row<'a> {
+    pub(crate) files: &'a [(&'a str, &'a str)],
+    pub(crate) lines: &'a [&'a str],
     pub(crate) status: u8,
-    pub(crate) output: &'static str,
+    pub(crate) output: &'a str,
 }
 
 /// A line that is run on a desk whose nth call of a kind fails, and what the file `tree` has then.
 #[derive(Clone, Copy)]
-pub(crate) struct FailingRow {
+pub(crate) struct FailingRow<'a> {
     pub(crate) call: DeskCall,
     pub(crate) nth: u64,
-    pub(crate) files: &'static [(&'static str, &'static str)],
-    pub(crate) line: &'static str,
+    pub(crate) files: &'a [(&'a str, &'a str)],
+    pub(crate) line: &'a str,
     pub(crate) status: u8,
-    pub(crate) output: &'static str,
-    pub(crate) tree: &'static str,
+    pub(crate) output: &'a str,
+    pub(crate) tree: &'a str,
 }
 
 // The words of a command line.
@@ -100,12 +101,48 @@ pub(crate) fn ran<R: Threads + Wait + Sync>(
     Ok(ended.status)
 }
 
+// The text of some bytes.
+fn text_of(alloc: Global, bytes: &[u8]) -> Result<String, Fail> {
+    match str::from_utf8(bytes) {
+        Ok(text) => Ok(String::from_str(alloc, text)?),
+        Err(_) => Err("no text".into()),
+    }
+}
+
+// The file `tree` after a line with status 0 on a desk with these files.
+pub(crate) fn tree_of<R: Threads + Wait + Abort + Sync>(
+    rt: &R,
+    alloc: Global,
+    plain: bool,
+    files: &[(&str, &str)],
+    line: &str,
+) -> Result<String, Fail> {
+    let mut desk = desk_with(alloc, files)?;
+    assert_eq!(rt; ran(rt, alloc, plain, &mut desk, line)?, 0, "at {line}");
+    text_of(alloc, desk.file("tree").unwrap_or(b""))
+}
+
+// What lines with status 0 print, one after the other, on a desk with these files.
+pub(crate) fn printed_by<R: Threads + Wait + Abort + Sync>(
+    rt: &R,
+    alloc: Global,
+    plain: bool,
+    files: &[(&str, &str)],
+    lines: &[&str],
+) -> Result<String, Fail> {
+    let mut desk = desk_with(alloc, files)?;
+    for line in lines {
+        assert_eq!(rt; ran(rt, alloc, plain, &mut desk, line)?, 0, "at {line}");
+    }
+    text_of(alloc, desk.output())
+}
+
 // Runs the lines of a row, whose files are read in pieces of so many bytes.
 fn check_lines<R: Threads + Wait + Abort + Sync>(
     rt: &R,
     alloc: Global,
     plain: bool,
-    row: &Row,
+    row: &Row<'_>,
     piece: usize,
 ) -> Result<(), Fail>
     requires { 1 ≤ piece }
@@ -121,10 +158,10 @@ fn check_lines<R: Threads + Wait + Abort + Sync>(
 }
 
 // Runs rows by both calls.
-fn check_rows<R: Threads + Wait + Abort + Sync>(
+pub(crate) fn check_rows<R: Threads + Wait + Abort + Sync>(
     rt: &R,
     alloc: Global,
-    rows: &[Row],
+    rows: &[Row<'_>],
     piece: usize,
 ) -> Result<(), Fail>
     requires { 1 ≤ piece }
@@ -154,7 +191,16 @@ fn reads_files(rt: HostRuntime) -> Result<(), Fail> {
 fn checks_trees(rt: HostRuntime) -> Result<(), Fail> {
     check_rows(&rt, rt.alloc(), &TREES, 65_536)?;
     check_rows(&rt, rt.alloc(), &TREES, 1)?;
-    check_rows(&rt, rt.alloc(), &FORMS, 65_536)
+    check_rows(&rt, rt.alloc(), &FORMS, 65_536)?;
+    check_rows(&rt, rt.alloc(), &FORMS, 1)
+}
+
+#[test]
+fn requotes_jobs(rt: HostRuntime) -> Result<(), Fail> {
+    check_rows(&rt, rt.alloc(), &CHANGED, 65_536)?;
+    check_rows(&rt, rt.alloc(), &CHANGED, 1)?;
+    check_rows(&rt, rt.alloc(), &OLD_TREES, 65_536)?;
+    check_rows(&rt, rt.alloc(), &OLD_FAULTS, 65_536)
 }
 
 #[test]
@@ -181,11 +227,11 @@ fn finds_cuts(rt: HostRuntime) -> Result<(), Fail> {
 }
 
 // Runs the line of a row where a call fails.
-fn check_failing<R: Threads + Wait + Abort + Sync>(
+pub(crate) fn check_failing<R: Threads + Wait + Abort + Sync>(
     rt: &R,
     alloc: Global,
     plain: bool,
-    row: &FailingRow,
+    row: &FailingRow<'_>,
 ) -> Result<(), Fail> {
     let mut desk = desk_with(alloc, row.files)?;
     desk.fail(row.call, row.nth).map_err(|_| "memory")?;
@@ -200,7 +246,7 @@ fn check_failing<R: Threads + Wait + Abort + Sync>(
 fn check_all_failing<R: Threads + Wait + Abort + Sync>(
     rt: &R,
     alloc: Global,
-    rows: &[FailingRow],
+    rows: &[FailingRow<'_>],
 ) -> Result<(), Fail> {
     for row in rows {
         check_failing(rt, alloc, true, row)?;
@@ -212,6 +258,7 @@ fn check_all_failing<R: Threads + Wait + Abort + Sync>(
 #[test]
 fn names_what_fails(rt: HostRuntime) -> Result<(), Fail> {
     check_all_failing(&rt, rt.alloc(), &FAILING)?;
+    check_all_failing(&rt, rt.alloc(), &FAILING_REQUOTES)?;
     check_all_failing(&rt, rt.alloc(), &FAILING_SCENARIOS)?;
     check_all_failing(&rt, rt.alloc(), &FAILING_TABLES)?;
     check_all_failing(&rt, rt.alloc(), &FAILING_CUTS)

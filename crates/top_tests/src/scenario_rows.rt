@@ -38,7 +38,7 @@ const FIVE_TIMES: &str =
      scenario\t13\t175.000000\nscenario\t14\t175.050000\nscenario\t15\t165.000000\nscenario\t16\tinfeasible\n";
 
 /// Least costs with the terms of several files, by one worker and by several.
-pub(crate) const SCENARIOS: [Row; 9] = [
+pub(crate) const SCENARIOS: [Row<'static>; 9] = [
     Row {
         files: &[("o", ORDERS), ("f", OFFERS), ("t1", STOCK), ("t2", BOTH)],
         lines: &["scenarios o - f t1 t2 -"],
@@ -120,7 +120,7 @@ pub(crate) const SCENARIOS: [Row; 9] = [
 ];
 
 /// Files with a fault.
-pub(crate) const SCENARIO_FAULTS: [Row; 9] = [
+pub(crate) const SCENARIO_FAULTS: [Row<'static>; 9] = [
     Row {
         files: &[("o", ORDERS), ("f", OFFERS), ("t1", STOCK)],
         lines: &["scenarios o - f t1 t2 -"],
@@ -218,7 +218,7 @@ pub(crate) const SCENARIO_FAULTS: [Row; 9] = [
 ];
 
 /// Scenarios of which a file cannot be read, or the output not be written.
-pub(crate) const FAILING_SCENARIOS: [FailingRow; 5] = [
+pub(crate) const FAILING_SCENARIOS: [FailingRow<'static>; 5] = [
     FailingRow {
         call: DeskCall::Open,
         nth: 5,

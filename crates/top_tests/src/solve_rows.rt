@@ -50,7 +50,7 @@ const SUPPLIERS: &str =
 const SOLVE_AND_CHECK: &[&str] = &["solve o - f t tree", "check o - f t tree"];
 
 /// One supplier and one good: on a step, below it, and where more may be bought than is needed.
-pub(crate) const ONE_GOOD: [Row; 8] = [
+pub(crate) const ONE_GOOD: [Row<'static>; 8] = [
     Row {
         files: &[("o", HUNDRED), ("f", OFFERS), ("t", NO_TERMS)],
         lines: SOLVE_AND_CHECK,
@@ -122,7 +122,7 @@ pub(crate) const ONE_GOOD: [Row; 8] = [
 ];
 
 /// Two suppliers and two goods: a step over both goods, a stock, winners, a share, and fees.
-pub(crate) const TWO_GOODS: [Row; 6] = [
+pub(crate) const TWO_GOODS: [Row<'static>; 6] = [
     Row {
         files: &[("o", BOTH), ("f", TWO), ("t", NO_TERMS)],
         lines: SOLVE_AND_CHECK,
@@ -182,7 +182,7 @@ pub(crate) const TWO_GOODS: [Row; 6] = [
 ];
 
 /// Nothing is ordered; and terms that nothing can meet.
-pub(crate) const EDGES: [Row; 4] = [
+pub(crate) const EDGES: [Row<'static>; 4] = [
     Row {
         files: &[("o", NONE), ("f", OFFERS), ("t", NO_TERMS)],
         lines: SOLVE_AND_CHECK,
@@ -222,7 +222,7 @@ pub(crate) const EDGES: [Row; 4] = [
 ];
 
 /// One, two and as many workers as there may be.
-pub(crate) const WORKERS: [Row; 3] = [
+pub(crate) const WORKERS: [Row<'static>; 3] = [
     Row {
         files: &[("o", BOTH), ("f", TWO)],
         lines: &["solve o - f - tree --workers 1", "check o - f - tree"],
@@ -244,7 +244,7 @@ pub(crate) const WORKERS: [Row; 3] = [
 ];
 
 /// A bill and terms; a mark, quotes and line ends.
-pub(crate) const FILES: [Row; 2] = [
+pub(crate) const FILES: [Row<'static>; 2] = [
     Row {
         files: &[
             ("o", PRODUCTS),
@@ -271,7 +271,7 @@ pub(crate) const FILES: [Row; 2] = [
 ];
 
 /// The first fault of orders, a bill, offers, terms and the whole.
-pub(crate) const FAULTS: [Row; 13] = [
+pub(crate) const FAULTS: [Row<'static>; 13] = [
     Row {
         files: &[
             ("o", HUNDRED),

@@ -11,7 +11,7 @@ const OFFERS: &str =
 const EACH_ONE: &str = "supplier,from,part,price\nA,1,x,1.00\nA,1,y,2.00\nB,1,x,1.20\nB,1,y,1.60\n";
 
 /// Least costs with each greatest number of winners, by one worker and by several.
-pub(crate) const TABLES: [Row; 9] = [
+pub(crate) const TABLES: [Row<'static>; 9] = [
     Row {
         files: &[("o", ORDERS), ("f", OFFERS)],
         lines: &["winners o - f -"],
@@ -95,7 +95,7 @@ pub(crate) const TABLES: [Row; 9] = [
 ];
 
 /// Tables of which a file cannot be read, or the output not be written.
-pub(crate) const FAILING_TABLES: [FailingRow; 3] = [
+pub(crate) const FAILING_TABLES: [FailingRow<'static>; 3] = [
     FailingRow {
         call: DeskCall::Open,
         nth: 2,

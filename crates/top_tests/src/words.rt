@@ -102,6 +102,42 @@ fn reads_other_words(rt: HostRuntime) -> Result<(), Fail> {
 }
 
 #[test]
+fn reads_words_on_old_trees(rt: HostRuntime) -> Result<(), Fail> {
+    let alloc = rt.alloc();
+    let cases = [
+        (
+            "requote o b f t old tree",
+            Command::Requote {
+                files: files(Some("b"), Some("t")),
+                old: "old",
+                tree: Some("tree"),
+            },
+        ),
+        (
+            "requote o - f - old -",
+            Command::Requote {
+                files: files(None, None),
+                old: "old",
+                tree: None,
+            },
+        ),
+        (
+            "requote o - f - tree tree",
+            Command::Requote {
+                files: files(None, None),
+                old: "tree",
+                tree: Some("tree"),
+            },
+        ),
+    ];
+    for (line, command) in cases {
+        let words = words_of(alloc, line)?;
+        assert!(rt; read_words(&words) == Some(command), "at {line}");
+    }
+    Ok(())
+}
+
+#[test]
 fn reads_words_on_costs(rt: HostRuntime) -> Result<(), Fail> {
     let alloc = rt.alloc();
     let cases = [
@@ -208,6 +244,12 @@ fn refuses_words_of_no_form(rt: HostRuntime) -> Result<(), Fail> {
         "make 1 1 65",
         "make 1000000000000000000 1 1",
         "make -1 1 1",
+        "requote o - f - - tree",
+        "requote o - f -  tree",
+        "requote o - f - old ",
+        "requote o - f - old",
+        "requote o - - - old tree",
+        "requote o - f - old tree --workers 2",
         "scenarios o - f",
         "scenarios o - f --workers 2",
         "scenarios o - - t",
